@@ -1,0 +1,8 @@
+use mathlib.Core.Path.{_≡_}
+use lib.ListN.{drop}
+use Rattle.hopper.specs.Refusing.{verdict}
+use Rattle.hopper.proofs.pass.Given as given
+
+-- the checks so far have passed
+abbrev pub Inv-loop-check : given.InvT-loop-check
+Inv-loop-check l = verdict (l .checks) ≡ verdict (drop (l .check-index) (l .checks))
