@@ -1,2 +1,4 @@
 pub mod Faults
 pub mod Refusing
+pub mod Boards
+pub mod Making

@@ -1,9 +1,24 @@
-// What every call of the planner answers where it refuses: a fault, and the table of checks that it comes from.
+// Boards and vessels, and what every call of the planner answers where it refuses: a fault, by its table of checks.
 ghost use mathlib.Core.Path.{_≡_};
 ghost use mathlib.Core.List.{List};
 ghost use Prim.Native.Nat.{ℕ};
 ghost use Rattle.hopper.specs.Faults.{refusalNumber, layerNumber, check, checkAt};
 ghost use Rattle.hopper.specs.Refusing.{verdict};
+
+pub mod board;
+pub mod closed;
+pub mod drawn;
+pub mod limits;
+pub mod lip;
+mod pouring;
+pub mod vessel;
+
+pub use board::Board;
+pub use closed::Closed;
+pub use drawn::Drawn;
+pub use lip::Lip;
+pub use vessel::Graded;
+pub use vessel::Vessel;
 
 // Why a call refuses.
 #[derive(Clone, Copy, PartialEq, Eq, Debug)]
