@@ -1,0 +1,4 @@
+pub mod Entries
+pub mod Choosing
+pub mod Rounds
+pub mod Attraction

@@ -1,0 +1,4 @@
+pub mod Entries
+pub mod Unfolding
+pub mod Forcing
+pub mod Marking
