@@ -19,7 +19,7 @@ use Rattle.game.specs.Game.{Owner, Ours, Theirs, Edge, Place, Game, SoundPlace
 use Rattle.game.specs.Limits.{mostAmount, mostFills}
 use Rattle.game.specs.Vessel.{Table, Keeps}
 use Rattle.game.specs.Fill.{Choice, Holds, IsMark}
-use Rattle.game.specs.Forced.{foe, Forces, IsForced, cell, spill, landing, unfoldMoves, unfoldPlace, alone, unfoldAt, onlySpill, unfolded}
+use Rattle.game.specs.Forced.{foe, Forces, IsForced, cell, spill, landing, unfoldEdge, unfoldMoves, unfoldPlace, alone, unfoldAt, onlySpill, unfolded}
 use Rattle.game.specs.Theorems.{SpillIsForcedByMark, UnfoldedIsWellFormed}
 use Rattle.game.proofs.Base.{none-some, some-inj, not-dec, stable, SomeMove, EachMove, find, Through, pours-dec, holds-dec, choice-map}
 
@@ -44,32 +44,27 @@ module _ (g : Game) (top : ℕ) (t : Table) where
   unfolding wide
   unfolded-wide le = sym (cond-true (leb (spill g top) mostFills) wide (record { places = 1; at = onlySpill }) (le-leb (spill g top) mostFills le))
 
-  edge : ℕ → Edge → Edge
-  edge c e = record { target = landing g top (e .target) (t c (e .amount)); amount = pos 0 }
-
-  nth-in : (c : ℕ) (ms : List Edge) (m : ℕ) (e : Edge) → nth ms m ≡ Some e → nth (unfoldMoves g top t c ms) m ≡ Some (edge c e)
-  unfolding edge
+  pub nth-in : (c : ℕ) (ms : List Edge) (m : ℕ) (e : Edge) → nth ms m ≡ Some e → nth (unfoldMoves g top t c ms) m ≡ Some (unfoldEdge g top t c e)
   nth-in c [] m e h = absurd (none-some h)
-  nth-in c (x ∷ xs) zero e h = ap (λ (z : Edge). Some (edge c z)) (some-inj h)
+  nth-in c (x ∷ xs) zero e h = ap (λ (z : Edge). Some (unfoldEdge g top t c z)) (some-inj h)
   nth-in c (x ∷ xs) (suc m) e h = nth-in c xs m e h
 
-  nth-out : (c : ℕ) (ms : List Edge) (m : ℕ) (e′ : Edge) → nth (unfoldMoves g top t c ms) m ≡ Some e′ → (e : Edge) × (nth ms m ≡ Some e) × (edge c e ≡ e′)
-  unfolding edge
+  nth-out : (c : ℕ) (ms : List Edge) (m : ℕ) (e′ : Edge) → nth (unfoldMoves g top t c ms) m ≡ Some e′ → (e : Edge) × (nth ms m ≡ Some e) × (unfoldEdge g top t c e ≡ e′)
   nth-out c [] m e′ h = absurd (none-some h)
   nth-out c (x ∷ xs) zero e′ h = (x, refl, some-inj h)
   nth-out c (x ∷ xs) (suc m) e′ h = nth-out c xs m e′ h
 
-  length-unfold : (c : ℕ) (ms : List Edge) → length (unfoldMoves g top t c ms) ≡ length ms
+  pub length-unfold : (c : ℕ) (ms : List Edge) → length (unfoldMoves g top t c ms) ≡ length ms
   length-unfold c [] = refl
   length-unfold c (x ∷ xs) = ap suc (length-unfold c xs)
 
-  choice-in : (o : Owner) (c : ℕ) (ms : List Edge) (P : Edge → Type 0) → Choice o ms (λ e. P (edge c e)) → Choice o (unfoldMoves g top t c ms) P
-  choice-in Ours c ms P w = (w .0, edge c (w .1), nth-in c ms (w .0) (w .1) (w .2), w .3)
+  choice-in : (o : Owner) (c : ℕ) (ms : List Edge) (P : Edge → Type 0) → Choice o ms (λ e. P (unfoldEdge g top t c e)) → Choice o (unfoldMoves g top t c ms) P
+  choice-in Ours c ms P w = (w .0, unfoldEdge g top t c (w .1), nth-in c ms (w .0) (w .1) (w .2), w .3)
   choice-in Theirs c ms P w = λ m e′ h. let v = nth-out c ms m e′ h in subst P (v .2) (w m (v .0) (v .1))
 
-  choice-out : (o : Owner) (c : ℕ) (ms : List Edge) (P : Edge → Type 0) → Choice o (unfoldMoves g top t c ms) P → Choice o ms (λ e. P (edge c e))
+  choice-out : (o : Owner) (c : ℕ) (ms : List Edge) (P : Edge → Type 0) → Choice o (unfoldMoves g top t c ms) P → Choice o ms (λ e. P (unfoldEdge g top t c e))
   choice-out Ours c ms P w = let v = nth-out c ms (w .0) (w .1) (w .2) in (w .0, v .0, v .1, subst P (sym (v .2)) (w .3))
-  choice-out Theirs c ms P w = λ m e h. w m (edge c e) (nth-in c ms m e h)
+  choice-out Theirs c ms P w = λ m e h. w m (unfoldEdge g top t c e) (nth-in c ms m e h)
 
   unfoldedOf : ℕ → Place → Place
   unfoldedOf c q = record { owner = q .owner; moves = unfoldMoves g top t c (q .moves) }
@@ -93,8 +88,8 @@ module _ (g : Game) (top : ℕ) (t : Table) where
     Both i = (p c : ℕ) → p < g .places → c ≤ top → Forces wide (spill g top) i (cell top p c) ↔ (¬ Holds g t i p c)
 
     land : (i : ℕ) → Both i → (c : ℕ) (e : Edge) → e .target < g .places
-        → Forces wide (spill g top) i (edge c e .target) ↔ (¬ Through t (Holds g t i) c e)
-    unfolding Both edge
+        → Forces wide (spill g top) i (unfoldEdge g top t c e .target) ↔ (¬ Through t (Holds g t i) c e)
+    unfolding Both
     land i ih c e lt = go (t c (e .amount)) refl
       where
         go : (o : Option ℕ) → t c (e .amount) ≡ o → Forces wide (spill g top) i (landing g top (e .target) (t c (e .amount))) ↔ (¬ Through t (Holds g t i) c e)
@@ -110,7 +105,7 @@ module _ (g : Game) (top : ℕ) (t : Table) where
             )
 
     both : (i : ℕ) → Both i
-    unfolding Both wide unfoldedOf edge
+    unfolding Both wide unfoldedOf
     both zero p c lt le = (λ e. absurd (apart e), λ n. absurd (n tt))
       where
         apart : cell top p c ≡ spill g top → ⊥
@@ -139,7 +134,7 @@ module _ (g : Game) (top : ℕ) (t : Table) where
                 subst (λ (r : Place). Choice (foe (r .owner)) (r .moves) (λ e. Forces wide (spill g top) i (e .target)))
                 (some-inj (sym (f .1) ∙ at-cell p c q lt le (w .1))) (f .2) in
                 choice-not (q .owner) (q .moves) (Through t (Holds g t i) c)
-                (choice-map (foe (q .owner)) (q .moves) (λ e. Forces wide (spill g top) i (edge c e .target)) (λ e. ¬ Through t (Holds g t i) c e)
+                (choice-map (foe (q .owner)) (q .moves) (λ e. Forces wide (spill g top) i (unfoldEdge g top t c e .target)) (λ e. ¬ Through t (Holds g t i) c e)
                 (λ m e h f. land i ih c e (w .2 .targets m e h) .0 f)
                 (choice-out (foe (q .owner)) c (q .moves) (λ e. Forces wide (spill g top) i (e .target)) f2))
                 (subst (λ (r : Place). Choice (r .owner) (r .moves) (Through t (Holds g t i) c)) (some-inj (sym (y .1) ∙ w .1)) (y .2))
@@ -150,7 +145,7 @@ module _ (g : Game) (top : ℕ) (t : Table) where
                   unfoldedOf c q,
                   at-cell p c q lt le (w .1),
                   choice-in (foe (q .owner)) c (q .moves) (λ e. Forces wide (spill g top) i (e .target))
-                      (choice-map (foe (q .owner)) (q .moves) (λ e. ¬ Through t (Holds g t i) c e) (λ e. Forces wide (spill g top) i (edge c e .target))
+                      (choice-map (foe (q .owner)) (q .moves) (λ e. ¬ Through t (Holds g t i) c e) (λ e. Forces wide (spill g top) i (unfoldEdge g top t c e .target))
                       (λ m e h k. land i ih c e (w .2 .targets m e h) .1 k)
                       (not-choice (q .owner) (q .moves) (Through t (Holds g t i) c) dec (λ ch. n (q, w .1, ch)))),
                 )
@@ -178,7 +173,7 @@ module _ (g : Game) (top : ℕ) (t : Table) where
         omega arith
 
     sound-cell : (c : ℕ) (q : Place) → SoundPlace g q → SoundPlace wide (unfoldedOf c q)
-    unfolding wide unfoldedOf edge
+    unfolding wide unfoldedOf
     sound-cell c q s =
         record {
           some-move = omega (arith, length-unfold c (q .moves), s .some-move);

@@ -44,11 +44,14 @@ abbrev pub landing : Game → ℕ → ℕ → Option ℕ → ℕ
 landing g top p None = spill g top
 landing g top p (Some d) = cell top p d
 
+-- the move e at level c
+abbrev pub unfoldEdge : Game → ℕ → Table → ℕ → Edge → Edge
+unfoldEdge g top t c e = record { target = landing g top (e .target) (t c (e .amount)); amount = pos 0 }
+
 -- the moves of a place at level c
 abbrev pub unfoldMoves : Game → ℕ → Table → ℕ → List Edge → List Edge
 unfoldMoves g top t c [] = []
-unfoldMoves g top t c (e ∷ es) =
-    record { target = landing g top (e .target) (t c (e .amount)); amount = pos 0 } ∷ unfoldMoves g top t c es
+unfoldMoves g top t c (e ∷ es) = unfoldEdge g top t c e ∷ unfoldMoves g top t c es
 
 -- the place at level c
 abbrev pub unfoldPlace : Game → ℕ → Table → ℕ → Option Place → Option Place

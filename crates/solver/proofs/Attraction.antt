@@ -3,20 +3,20 @@ use mathlib.Core.Path.{_≡_, refl, sym, ap, _∙_}
 use mathlib.Core.Bool.{Bool, true, false, cond}
 use mathlib.Core.Logic.{_⊎_, inl, inr}
 use mathlib.Core.List.{List}
-use Prim.Native.Nat.{ℕ, zero, suc, _+_, _≤_, _<_}
+use Prim.Native.Nat.{ℕ, suc, _+_, _≤_, _<_}
 use native.Mathlib.Decide.{ℕ-discrete}
 use native.Mathlib.Omega.{arith}
 use lib.Dec.{eqb}
 use lib.ListN.{length, getD, set}
 use lib.Seq.{getD-set-same, getD-set-other}
 use Rattle.std.proofs.shelf.Ways.{tells}
-use Rattle.std.specs.declared.option.Option.the-variants.{Some, None}
+use Rattle.std.specs.declared.option.Option.the-variants.{Some}
 use Rattle.game.specs.Game.{Game, WellFormed, sumBelow}
 use Rattle.game.specs.Fill.{IsLeast}
 use Rattle.game.specs.Forced.{ForcesInto, Forces, IsForced}
 use Rattle.game.proofs.Forced.{into-map, forces-longer, forced-settles}
 use Rattle.game.proofs.Sums.{sum-const, sum-lt}
-use Rattle.solver.specs.Entries.{never, asEntry, entries, Filled, Tells}
+use Rattle.solver.specs.Entries.{never, asEntry, entries, Filled}
 use Rattle.solver.specs.Forcing.{MarkedBelow, RoundDone, ForcedMarks}
 use Rattle.solver.proofs.Entries.{entry-small, entry-back}
 

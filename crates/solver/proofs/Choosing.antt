@@ -1,21 +1,17 @@
 -- Moves by their numbers, and who chooses among them.
-use mathlib.Core.Path.{_≡_, refl, sym, ap, _∙_, subst}
+use mathlib.Core.Path.{_≡_, refl, sym, _∙_, subst}
 use mathlib.Core.Bool.{Bool, true, false}
-use mathlib.Core.List.{List}
-use Prim.Native.Nat.{ℕ, zero, suc, _+_, _≤_, _<_}
-use native.Mathlib.Omega.{arith}
+use Prim.Native.Nat.{ℕ}
 use Rattle.std.specs.Finite.{nth}
 use Rattle.std.specs.declared.option.Option.{Option}
 use Rattle.std.specs.declared.option.Option.the-variants.{Some, None}
-use Rattle.game.specs.declared.Edge.{Edge}
 use Rattle.game.specs.declared.Owner.{Owner}
 use Rattle.game.specs.declared.Owner.the-variants.{Ours, Theirs}
-use Rattle.game.specs.Game.{Place, Game, WellFormed}
+use Rattle.game.specs.Game.{Place, Game}
 use Rattle.game.specs.Fill.{Choice}
 use Rattle.game.specs.Forced.{foe, ForcesInto}
-use Rattle.game.proofs.Base.{none-some, some-inj, choice-map}
-use Rattle.game.proofs.Force.{sound-at}
-use Rattle.hopper.specs.Boards.{ownerAt, movesAt, stepAt}
+use Rattle.game.proofs.Base.{none-some, some-inj}
+use Rattle.hopper.specs.Boards.{ownerAt}
 use Rattle.hopper.proofs.Boards.{step-place, step-at}
 use Rattle.solver.specs.Entries.{Tells}
 use Rattle.solver.specs.Forcing.{SomeLeads, EachLeads}

@@ -3,11 +3,11 @@ use native.Mathlib.Omega.{arith}
 use native.Mathlib.Numerals.{add-one}
 use mathlib.Core.Path.{_≡_, refl}
 use mathlib.Core.Bool.{true, false}
-use Prim.Native.Nat.{ℕ, suc, _≤_, _<_, _+_}
+use Prim.Native.Nat.{suc, _≤_, _<_}
 use lib.ListN.{length, set}
 use Rattle.solver.specs.Entries.{never, Filled}
 use Rattle.solver.specs.Forcing.{RoundDone}
-use Rattle.solver.proofs.Attraction.{AfterRounds, started, started-rest, gone-on, stopped}
+use Rattle.solver.proofs.Attraction.{started, started-rest, gone-on, stopped}
 use Rattle.solver.proofs.forcing.forced.Needs as need
 
 pub loop-rounds-holds : need.loop-rounds-holds

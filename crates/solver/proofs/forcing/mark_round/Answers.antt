@@ -3,7 +3,7 @@ use native.Mathlib.Omega.{arith}
 use Prim.Native.Nat.{ℕ, _≤_, _<_}
 use lib.ListN.{getD, length}
 use Rattle.solver.specs.Entries.{never}
-use Rattle.solver.proofs.Rounds.{round-none, round-set, round-old, round-not}
+use Rattle.solver.proofs.Rounds.{round-set, round-old, round-not}
 use Rattle.solver.proofs.forcing.mark_round.Needs as need
 use Rattle.solver.proofs.forcing.mark_round.Needs.{then-marks-place·then-can-force, else-marks-place, else-marks-place·by·then-marks-place·else-can-force, else-marks-place·by·else-marks-place}
 

@@ -1,0 +1,45 @@
+// How long each fill holds.
+ghost use mathlib.Core.Path.{_≡_};
+ghost use Rattle.hopper.specs.Accepting.{Accepted};
+ghost use Rattle.solver.specs.Marking.{MarkAnswers, TellsFates, NeverIsGood, BadIsForcedWithin, OneAboveTop, EachFillHasFate, NeverWinsLowerWeakUpperBound, NeverWinsIntervalBound};
+use super::forcing::forced;
+use super::unfolded::Unfolded;
+use super::unfolded::UnfoldedBoard;
+use hopper::Board;
+use hopper::Check;
+use hopper::Fault;
+use hopper::Layer;
+use hopper::Refusal;
+use hopper::Vessel;
+use hopper::limits::MOST_FILLS;
+use hopper::pass;
+
+// Marks each fill with the fewest moves in which the other side can make the vessel refuse one, and answers the largest such number.
+// On the unfolded board that is to force the run into the spill.
+pub fn mark<'x, B: Board, V: Vessel>(
+    board: &'x B,
+    vessel: &'x V,
+    marks: &mut [u32],
+) -> Result<u32, Fault>
+    ensures answer { λ r. ⌜ MarkAnswers (B·Board .game (now (board .entry))) (V·Vessel .top (now (vessel .entry))) (V·Vessel .table (now (vessel .entry))) (now (marks .entry)) (now (marks .exit)) r ⌝ }
+    ensures fates { λ r. ⌜ Accepted (λ _. TellsFates (B·Board .game (now (board .entry))) (V·Vessel .top (now (vessel .entry))) (V·Vessel .table (now (vessel .entry))) (now (marks .exit))) r ⌝ }
+    ensures good { λ r. ⌜ Accepted (λ _. NeverIsGood (B·Board .game (now (board .entry))) (V·Vessel .top (now (vessel .entry))) (V·Vessel .table (now (vessel .entry))) (now (marks .exit))) r ⌝ }
+    ensures bad { λ r. ⌜ Accepted (BadIsForcedWithin (B·Board .game (now (board .entry))) (V·Vessel .top (now (vessel .entry))) (V·Vessel .table (now (vessel .entry)))) r ⌝ }
+    ensures lip { λ r. ⌜ Accepted (λ _. NeverWinsLowerWeakUpperBound (B·Board .game (now (board .entry))) (V·Vessel .top (now (vessel .entry))) (V·Vessel .table (now (vessel .entry))) (now (marks .exit))) r ⌝ }
+    ensures closed { λ r. ⌜ Accepted (λ _. NeverWinsIntervalBound (B·Board .game (now (board .entry))) (V·Vessel .top (now (vessel .entry))) (V·Vessel .table (now (vessel .entry))) (now (marks .exit))) r ⌝ }
+    ensures above { λ _. ⌜ OneAboveTop (B·Board .game (now (board .entry))) (V·Vessel .top (now (vessel .entry))) (V·Vessel .table (now (vessel .entry))) ⌝ }
+    ensures each { λ _. ⌜ EachFillHasFate (B·Board .game (now (board .entry))) (V·Vessel .table (now (vessel .entry))) ⌝ }
+{
+    let top = vessel.top();
+    let product = board.places() as u64 * (top as u64 + 1);
+    pass(
+        &[Check::new(
+            product > MOST_FILLS,
+            Refusal::TooManyFills,
+            Layer::Rest,
+            top as u64,
+        )],
+    )?;
+    let unfolded = Unfolded { board, vessel };
+    forced(&unfolded, product as u32, marks)
+}
