@@ -4,3 +4,6 @@ pub mod Rounds
 pub mod Attraction
 pub mod Unfolds
 pub mod Marks
+pub mod Parting
+pub mod Serving
+pub mod RowByRow

@@ -17,7 +17,7 @@ use Rattle.std.specs.declared.result.Result.{Result}
 use Rattle.std.specs.declared.result.Result.the-variants.{Ok, Err}
 use Rattle.game.specs.Game.{Game, WellFormed}
 use Rattle.game.specs.Limits.{mostFills}
-use Rattle.game.specs.Vessel.{Table, Keeps}
+use Rattle.game.specs.Vessel.{Table, Keeps, lip, closed}
 use Rattle.game.specs.Fill.{Good, IsMark}
 use Rattle.game.specs.Forced.{IsForced, cell, spill, unfolded}
 use Rattle.game.specs.Play.{OtherSideForces}
@@ -48,6 +48,20 @@ at-target g t n f = go (asEntry n) refl f
     go None e f = absurd (f 0 refl)
     go (Some zero) e f = entry-back n 0 e .0
     go (Some (suc k)) e f = absurd (f .1 0 (omega arith) refl)
+
+-- a level of a lip, or of a closed vessel, is no higher than the top
+module _ (g : Game) (top : ℕ) (t : Table) (keeps : Keeps top t) (b : ℕ) where
+  pub lip-below-top : t ≡ lip b → (c : ℕ) → c ≤ b → c ≤ top
+  lip-below-top is c le =
+      let same : t b (pos 0) ≡ Some b = ap (λ (u : Table). u b (pos 0)) is ∙ (lip-make b b (pos 0) b (omega arith) (omega arith) (omega (arith, ints)) ∙ ap Some (omega arith)) in
+      let high = keeps .within b (pos 0) b same in
+      omega arith
+
+  pub closed-below-top : t ≡ closed b → (c : ℕ) → c ≤ b → c ≤ top
+  closed-below-top is c le =
+      let same : t b (pos 0) ≡ Some b = ap (λ (u : Table). u b (pos 0)) is ∙ closed-make b b (pos 0) b (omega arith) (omega arith) (omega (arith, ints)) (omega arith) in
+      let high = keeps .within b (pos 0) b same in
+      omega arith
 
 module _ (g : Game) (wf : WellFormed g) (top : ℕ) (t : Table) (keeps : Keeps top t) where
   pub one-above-top : OneAboveTop g top t
@@ -133,14 +147,14 @@ module _ (g : Game) (wf : WellFormed g) (top : ℕ) (t : Table) (keeps : Keeps t
 
     pub never-wins-lower-weak-upper-bound : (r : Result ℕ Fault) → MarkAnswers g top t old new r → Accepted (λ _. NeverWinsLowerWeakUpperBound g top t new) r
     never-wins-lower-weak-upper-bound (Ok rounds) a = λ b is p c lt le.
-        let b≤ : b ≤ top = keeps .within b (pos 0) b (ap (λ (u : Table). u b (pos 0)) is ∙ (lip-make b b (pos 0) b (omega arith) (omega arith) (omega (arith, ints)) ∙ ap Some (omega arith))) in
+        let c≤ : c ≤ top = lip-below-top g top t keeps b is c le in
         chain (never-good rounds (a .1) p c lt (omega arith))
         (subst (λ (u : Table). Good g u p c ↔ LowerWeakUpperBound g b p c) (sym is) (lip-is-lower-weak-upper-bound g wf b p c lt le))
     never-wins-lower-weak-upper-bound (Err e) a = tt
 
     pub never-wins-interval-bound : (r : Result ℕ Fault) → MarkAnswers g top t old new r → Accepted (λ _. NeverWinsIntervalBound g top t new) r
     never-wins-interval-bound (Ok rounds) a = λ b is p c lt le.
-        let b≤ : b ≤ top = keeps .within b (pos 0) b (ap (λ (u : Table). u b (pos 0)) is ∙ closed-make b b (pos 0) b (omega arith) (omega arith) (omega (arith, ints)) (omega arith)) in
+        let c≤ : c ≤ top = closed-below-top g top t keeps b is c le in
         chain (never-good rounds (a .1) p c lt (omega arith))
         (subst (λ (u : Table). Good g u p c ↔ IntervalBound g b p c) (sym is) (closed-is-interval-bound g wf b p c lt le))
     never-wins-interval-bound (Err e) a = tt

@@ -2,10 +2,12 @@
 pub mod forcing;
 pub mod marking;
 mod moves;
+pub mod rows;
 pub mod unfolded;
 
 pub use forcing::forced;
 pub use marking::mark;
+pub use rows::least;
 pub use unfolded::Unfolded;
 
 // The number that stands for never in a buffer.

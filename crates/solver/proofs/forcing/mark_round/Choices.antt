@@ -1,4 +1,3 @@
-use Prim.Native.Nat.{ℕ, _<_}
 use Rattle.solver.specs.Forcing.{RoundDone}
 use Rattle.solver.proofs.forcing.mark_round.Given as given
 
