@@ -7,3 +7,4 @@ pub mod Marks
 pub mod Parting
 pub mod Serving
 pub mod RowByRow
+pub mod Following

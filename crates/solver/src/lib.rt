@@ -2,11 +2,13 @@
 pub mod forcing;
 pub mod marking;
 mod moves;
+pub mod planning;
 pub mod rows;
 pub mod unfolded;
 
 pub use forcing::forced;
 pub use marking::mark;
+pub use planning::plan;
 pub use rows::least;
 pub use unfolded::Unfolded;
 
