@@ -11,14 +11,14 @@ use super::Refusal;
 use super::limits::MOST_AMOUNT;
 
 // The check that fails where a number is out of range.
-pub fn range_check(out: bool, number: u32) -> Check
+pub(crate) fn range_check(out: bool, number: u32) -> Check
     ensures { λ r. ⌜ r ≡ check out Refusal.VesselOutOfRange Layer.File number ⌝ }
 {
     Check::new(out, Refusal::VesselOutOfRange, Layer::File, number as u64)
 }
 
 // The level and the amount added up, where both are within the limits and the sum is not below 0.
-pub fn added(top: u32, level: u32, amount: i32) -> Option<u32>
+pub(crate) fn added(top: u32, level: u32, amount: i32) -> Option<u32>
     requires { ⌜ top ≤ mostTop ⌝ }
     ensures { λ r. ⌜ r ≡ upTo top unlimited level amount ⌝ }
 {
@@ -30,7 +30,7 @@ pub fn added(top: u32, level: u32, amount: i32) -> Option<u32>
 }
 
 // The lowest level up to the top from which the sum, cut at the top, comes to the wanted level.
-pub fn lifted(top: u32, wanted: u32, amount: i32) -> Option<u32>
+pub(crate) fn lifted(top: u32, wanted: u32, amount: i32) -> Option<u32>
     requires { ⌜ top ≤ mostTop ⌝ }
     ensures { λ r. ⌜ r ≡ needLip top wanted amount ⌝ }
 {

@@ -40,6 +40,11 @@ use Rattle.solver.specs.Marking.{markChecks, FillMarks, MarkAnswers, TellsFate
 use Rattle.solver.proofs.Entries.{entry-back, entry-number}
 use Rattle.solver.proofs.Unfolds.{places-are, small-spill, number-of}
 
+-- what holds anyway holds of an accepted answer
+pub of-accepted : {A P : Type 0} (r : Result A Fault) → P → Accepted (λ _. P) r
+of-accepted (Ok a) p = p
+of-accepted (Err e) p = tt
+
 -- the target is marked 0
 at-target : (g : Game) (t n : ℕ) → IsForced g t t (asEntry n) → n ≡ 0
 at-target g t n f = go (asEntry n) refl f

@@ -17,7 +17,7 @@ use hopper::Refusal;
 use hopper::pass;
 
 // Writes the value to the first entries.
-pub fn fill(buffer: &mut [u32], count: u32, value: u32)
+pub(crate) fn fill(buffer: &mut [u32], count: u32, value: u32)
     requires { ⌜ count ≤ length (now buffer) ⌝ }
     ensures { λ _. ⌜ Filled count value (now (buffer .entry)) (now (buffer .exit)) ⌝ }
 {

@@ -27,8 +27,8 @@ pub fn mark<'x, B: Board, V: Vessel>(
     ensures bad { λ r. ⌜ Accepted (BadIsForcedWithin (B·Board .game (now (board .entry))) (V·Vessel .top (now (vessel .entry))) (V·Vessel .table (now (vessel .entry)))) r ⌝ }
     ensures lip { λ r. ⌜ Accepted (λ _. NeverWinsLowerWeakUpperBound (B·Board .game (now (board .entry))) (V·Vessel .top (now (vessel .entry))) (V·Vessel .table (now (vessel .entry))) (now (marks .exit))) r ⌝ }
     ensures closed { λ r. ⌜ Accepted (λ _. NeverWinsIntervalBound (B·Board .game (now (board .entry))) (V·Vessel .top (now (vessel .entry))) (V·Vessel .table (now (vessel .entry))) (now (marks .exit))) r ⌝ }
-    ensures above { λ _. ⌜ OneAboveTop (B·Board .game (now (board .entry))) (V·Vessel .top (now (vessel .entry))) (V·Vessel .table (now (vessel .entry))) ⌝ }
-    ensures each { λ _. ⌜ EachFillHasFate (B·Board .game (now (board .entry))) (V·Vessel .table (now (vessel .entry))) ⌝ }
+    ensures above { λ r. ⌜ Accepted (λ _. OneAboveTop (B·Board .game (now (board .entry))) (V·Vessel .top (now (vessel .entry))) (V·Vessel .table (now (vessel .entry)))) r ⌝ }
+    ensures each { λ r. ⌜ Accepted (λ _. EachFillHasFate (B·Board .game (now (board .entry))) (V·Vessel .table (now (vessel .entry)))) r ⌝ }
 {
     let top = vessel.top();
     let product = board.places() as u64 * (top as u64 + 1);

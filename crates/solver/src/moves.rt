@@ -7,7 +7,7 @@ use game::Edge;
 use hopper::Board;
 
 // How many moves the place has.
-pub fn move_count<B: Board>(board: &B, place: u32) -> u32
+pub(crate) fn move_count<B: Board>(board: &B, place: u32) -> u32
     requires { ⌜ place < B·Board .game (now board) .places ⌝ }
     ensures { λ r. ⌜ r ≡ countAt (B·Board .game (now (board .entry)) .at place) ⌝ }
 {
@@ -18,7 +18,7 @@ pub fn move_count<B: Board>(board: &B, place: u32) -> u32
 }
 
 // Its move m.
-pub fn move_at<B: Board>(board: &B, place: u32, m: u32) -> Edge
+pub(crate) fn move_at<B: Board>(board: &B, place: u32, m: u32) -> Edge
     requires { ⌜ m < countAt (B·Board .game (now board) .at place) ⌝ }
     ensures answered { λ r. ⌜ stepAt (B·Board .game (now (board .entry)) .at place) m ≡ Some r ⌝ }
     ensures inside { λ r. ⌜ r .target < B·Board .game (now (board .entry)) .places ⌝ }

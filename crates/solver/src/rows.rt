@@ -24,7 +24,7 @@ use hopper::Vessel;
 use hopper::pass;
 
 // The lowest level from which the amount leads to the entry or above, or never.
-pub fn needed<V: Graded>(vessel: &V, entry: u32, amount: i32) -> u32
+pub(crate) fn needed<V: Graded>(vessel: &V, entry: u32, amount: i32) -> u32
     ensures { λ r. ⌜ Parts (V·Vessel .top (now (vessel .entry))) (Reaches (V·Vessel .table (now (vessel .entry))) entry amount) r ⌝ }
 {
     match vessel.need(entry, amount) {

@@ -4,7 +4,7 @@ use Rattle.game.specs.Limits.{mostFills}
 use Rattle.game.specs.Forced.{spill, unfolded}
 use Rattle.solver.specs.Forcing.{ForcedAnswers}
 use Rattle.solver.specs.Marking.{MarkAnswers}
-use Rattle.solver.proofs.Marks.{mark-answers, tells-fates, never-is-good, bad-is-forced-within, never-wins-lower-weak-upper-bound, never-wins-interval-bound, one-above-top, each-fill-has-fate}
+use Rattle.solver.proofs.Marks.{mark-answers, tells-fates, never-is-good, bad-is-forced-within, never-wins-lower-weak-upper-bound, never-wins-interval-bound, one-above-top, each-fill-has-fate, of-accepted}
 use Rattle.solver.proofs.marking.mark.Needs as need
 
 pub returns : need.returns
@@ -29,26 +29,6 @@ returns g c =
       bad = bad-is-forced-within game formed top t keeps old new r answer;
       lip = never-wins-lower-weak-upper-bound game formed top t keeps old new r answer;
       closed = never-wins-interval-bound game formed top t keeps old new r answer;
-      above = one-above-top game formed top t keeps;
-      each = each-fill-has-fate game formed top t keeps;
-    }
-
-pub returns-in-Break-pass : need.returns-in-Break-pass
-returns-in-Break-pass g c =
-    let board = c .args .board .now in
-    let vessel = c .args .vessel .now in
-    let game = g .B·Board .game board in
-    let top = g .V·Vessel .top vessel in
-    let t = g .V·Vessel .table vessel in
-    let formed = g .B·Board .formed board in
-    let keeps = g .V·Vessel .keeps vessel in
-    record {
-      answer = search needs;
-      fates = search needs;
-      good = search needs;
-      bad = search needs;
-      lip = search needs;
-      closed = search needs;
-      above = one-above-top game formed top t keeps;
-      each = each-fill-has-fate game formed top t keeps;
+      above = of-accepted r (one-above-top game formed top t keeps);
+      each = of-accepted r (each-fill-has-fate game formed top t keeps);
     }
