@@ -14,3 +14,4 @@ pub mod Weights
 pub mod Unfold
 pub mod Vessels
 pub mod Forced
+pub mod Cases

@@ -46,6 +46,14 @@ Row = ℕ → Option ℕ
 abbrev pub IsRow : Game → Table → ℕ → ℕ → Row → Type 0
 IsRow g t top j row = (p : ℕ) → p < g .places → IsLeast (λ c. (c ≤ top) × Holds g t j p c) (row p)
 
+-- row j is row j + 1 too
+abbrev pub Repeats : Game → ℕ → Table → ℕ → Type 0
+Repeats g top t j = (row : Row) × IsRow g t top j row × IsRow g t top (suc j) row
+
+-- j is the first row that repeats
+abbrev pub FirstRepeat : Game → ℕ → Table → ℕ → Type 0
+FirstRepeat g top t j = Repeats g top t j × ((i : ℕ) → i < j → ¬ Repeats g top t i)
+
 -- the lowest good fill of the place, None where all are bad
 abbrev pub LeastGood : Game → Table → ℕ → Option ℕ → Type 0
 LeastGood g t p = IsLeast (Good g t p)
