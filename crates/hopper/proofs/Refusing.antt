@@ -98,6 +98,14 @@ accepted-passes cs a b e = by (verdict cs) (e ∙ answer-is cs a)
     by (Ok u) q = refl
     by (Err f) q = absurd (false≢true (sym (ap isOk q)))
 
+-- and answers its own answer
+pub accepted-is : {A : Type 0} (cs : List Check) (a b : A) → Ok b ≡ refuse cs a → b ≡ a
+accepted-is cs a b e = by (verdict cs) (e ∙ answer-is cs a)
+  where
+    by : (r : Result (Unit {0}) Fault) → Ok b ≡ andOther r (Ok a) → b ≡ a
+    by (Ok u) q = cc
+    by (Err f) q = absurd (false≢true (sym (ap isOk q)))
+
 -- what a question mark hands on is the fault it met
 pub handed-on : {A : Type 0} (r : Result A Fault) (f : Fault) → ErrBy r (λ e. e ≡ f) → r ≡ Err f
 handed-on (Ok a) f e = absurd e

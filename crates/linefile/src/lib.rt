@@ -8,6 +8,7 @@ use lineformat::MoveRecord;
 use lineformat::PlaceRecord;
 
 mod bytes;
+pub mod printing;
 mod reading;
 mod records;
 mod writing;
