@@ -18,7 +18,12 @@ use std::io;
 use std::io::Read;
 
 // Writes the line of a file again, by way of two tables that have room for its records. What it writes is the file.
-fn write_again(line: &FileLine, places: &mut [PlaceRecord], moves: &mut [MoveRecord], out: &mut [u8]) -> Result<usize, Fault>
+fn write_again(
+    line: &FileLine,
+    places: &mut [PlaceRecord],
+    moves: &mut [MoveRecord],
+    out: &mut [u8],
+) -> Result<usize, Fault>
     ensures { λ r. ⌜ Cases r (λ n. (n ≡ length (fileOf (now (line .entry)))) × (now (out .exit) ≡ fileOf (now (line .entry)) ++ drop n (now (out .entry)))) (λ _. now (out .exit) ≡ now (out .entry)) ⌝ }
 {
     match line.unpack(places, moves) {
@@ -41,8 +46,15 @@ fn write_again(line: &FileLine, places: &mut [PlaceRecord], moves: &mut [MoveRec
 // Whether the writer makes the bytes of the file again.
 fn written_alike(rt: &LibcRuntime, line: &FileLine, file: &[u8]) -> io::Result<bool> {
     let heap = rt.alloc();
-    let mut places = vec![in heap; PlaceRecord { owner: 0, letters: 0, moves: 0 }; line.places()]?;
-    let mut moves = vec![in heap; MoveRecord { target: 0, amount: 0 }; line.moves()]?;
+    let mut places = vec![in heap; PlaceRecord {
+        owner: 0,
+        letters: 0,
+        moves: 0
+    }; line.places()]?;
+    let mut moves = vec![in heap; MoveRecord {
+        target: 0,
+        amount: 0
+    }; line.moves()]?;
     let mut out = vec![in heap; 0u8; file.len()]?;
     match write_again(line, &mut places, &mut moves, &mut out) {
         Ok(n) => Ok(n == file.len() && out.as_slice() == file),
@@ -58,7 +70,11 @@ fn print_place(rt: &LibcRuntime, line: &FileLine, p: usize) -> io::Result<()> {
     let Some(name) = line.name(p) else {
         return Ok(());
     };
-    let owner = if place.owner == Owner::Ours.number() { Owner::Ours } else { Owner::Theirs };
+    let owner = if place.owner == Owner::Ours.number() {
+        Owner::Ours
+    } else {
+        Owner::Theirs
+    };
     let moves = place.moves;
     let text = std::str::from_utf8(name.letters).unwrap_or("");
     println!(rt, "{p} {owner} {moves} {text}")
@@ -66,7 +82,11 @@ fn print_place(rt: &LibcRuntime, line: &FileLine, p: usize) -> io::Result<()> {
 
 fn print_line(rt: &LibcRuntime, line: &FileLine, file: &[u8]) -> io::Result<()> {
     let bytes = file.len();
-    let alike = if written_alike(rt, line, file)? { "alike" } else { "otherwise" };
+    let alike = if written_alike(rt, line, file)? {
+        "alike"
+    } else {
+        "otherwise"
+    };
     println!(rt, "accepted {line}, {bytes} bytes, written again {alike}")?;
     for p in 0..line.places() {
         print_place(rt, line, p)?;

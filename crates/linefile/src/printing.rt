@@ -2,9 +2,9 @@
 ghost use Rattle.std.specs.declared.option.Option.the-variants.{Some};
 ghost use Rattle.linefile.specs.Held.{held};
 ghost use Rattle.linefile.specs.Texts.{lineText};
+use super::FileLine;
 use lineformat::Kind;
 use std::fmt;
-use super::FileLine;
 
 pub impl<'a> fmt::Display for FileLine<'a> as FileLineDisplay {
     ghost shown = { λ b. Some (lineText (held b)) };

@@ -44,32 +44,7 @@ use lineformat::PlaceRecord;
 use lineformat::TRAILER_SIZE;
 
 // One place of ours without a name, which leads to itself with 0; lip 0.
-static BUILT_IN: [u8; 24] = [
-    0,
-    0,
-    0,
-    0,
-    0,
-    0,
-    1,
-    0,
-    1,
-    0,
-    1,
-    0,
-    0,
-    0,
-    0,
-    0,
-    0,
-    0,
-    0,
-    1,
-    8,
-    0,
-    0,
-    0,
-];
+const BUILT_IN: &[u8; 24] = b"\0\0\0\0\0\0\x01\0\x01\0\x01\0\0\0\0\0\0\0\0\x01\x08\0\0\0";
 
 fn check_size(file: &[u8]) -> Result<(), Fault>
     ensures { λ r. ⌜ r ≡ verdict (sizeChecks (now (file .entry))) ⌝ }
@@ -174,9 +149,8 @@ fn check_trailer(file: &[u8]) -> Result<(), Fault>
 {
     check_size(file)?;
     sized(file);
-    check_version(file).and(check_numbers(numbers_in(file), offsets_in(file)).and(check_distance(
-        file,
-    )))
+    let numbers = check_numbers(numbers_in(file), offsets_in(file));
+    check_version(file).and(numbers.and(check_distance(file)))
 }
 
 fn check_file(file: &[u8]) -> Result<(), Fault>
@@ -207,7 +181,7 @@ impl<'a> FileLine<'a> {
     pub fn built_in() -> FileLine<'a>
         ensures { λ r. ⌜ held r ≡ builtIn ⌝ }
     {
-        FileLine { bytes: &BUILT_IN }
+        FileLine { bytes: BUILT_IN }
     }
 
     // Reads a file into this line; a file that is refused leaves the line as it was.

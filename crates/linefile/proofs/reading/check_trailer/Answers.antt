@@ -23,9 +23,9 @@ unfolding trailerChecks
 returns c =
     let bs = c .args .file .now in
     let N = numberChecks (numbersIn bs) (offsetsIn bs) in
-    let n : c .check-numbers .result ≡ verdict N =
-    c .check-numbers .ensures ∙ ap (λ x. verdict (numberChecks x (c .offsets-in .result))) (c .numbers-in .ensures) ∙ ap (λ x. verdict (numberChecks (numbersIn bs) x)) (c .offsets-in .ensures) in
+    let n : c .check-numbers-numbers .result ≡ verdict N =
+    c .check-numbers-numbers .ensures ∙ ap (λ x. verdict (numberChecks x (c .offsets-in .result))) (c .numbers-in .ensures) ∙ ap (λ x. verdict (numberChecks (numbersIn bs) x)) (c .offsets-in .ensures) in
     joined-verdicts (versionChecks bs) (N ++ distanceChecks bs) (c .check-version .result) (c .and .result) (c .and-2 .result) (c .check-version .ensures)
-    (joined-verdicts N (distanceChecks bs) (c .check-numbers .result) (c .check-distance .result) (c .and .result) n (c .check-distance .ensures) (c .and .ensures))
+    (joined-verdicts N (distanceChecks bs) (c .check-numbers-numbers .result) (c .check-distance .result) (c .and .result) n (c .check-distance .ensures) (c .and .ensures))
     (c .and-2 .ensures)
     ∙ second-decides (sizeChecks bs) (versionChecks bs ++ (N ++ distanceChecks bs)) tt (c .in-Continue-check-size .field-0) (c .in-Continue-check-size .ensures tt)

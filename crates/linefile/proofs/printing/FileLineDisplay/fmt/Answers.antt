@@ -20,19 +20,19 @@ pub returns-in-Lip : need.returns-in-Lip
 returns-in-Lip g c = λ plain ok.
     subst (λ (bs : List ℕ). Put (g .W·Write .took) (c .args .f .now) bs (c .write .last .self))
     (same-row (held (c .args .self .now)) (c .places-places .result) (c .moves-moves .result) 0 (c .top-top .result) (c .draw-draw .result)
-      (c .places-places .ensures) (c .moves-moves .ensures) (c .in-Lip .ensures tt) (c .top-top .ensures) (c .draw-draw .ensures))
+    (c .places-places .ensures) (c .moves-moves .ensures) (c .in-Lip .ensures tt) (c .top-top .ensures) (c .draw-draw .ensures))
     (c .write .ensures .shows plain ok)
 
 pub returns-in-Closed : need.returns-in-Closed
 returns-in-Closed g c = λ plain ok.
     subst (λ (bs : List ℕ). Put (g .W·Write .took) (c .args .f .now) bs (c .write-in-Closed .last .self))
     (same-row (held (c .args .self .now)) (c .places-places .result) (c .moves-moves .result) 1 (c .top-top .result) (c .draw-draw .result)
-      (c .places-places .ensures) (c .moves-moves .ensures) (c .in-Closed .ensures tt) (c .top-top .ensures) (c .draw-draw .ensures))
+    (c .places-places .ensures) (c .moves-moves .ensures) (c .in-Closed .ensures tt) (c .top-top .ensures) (c .draw-draw .ensures))
     (c .write-in-Closed .ensures .shows plain ok)
 
 pub returns-in-Drawn : need.returns-in-Drawn
 returns-in-Drawn g c = λ plain ok.
     subst (λ (bs : List ℕ). Put (g .W·Write .took) (c .args .f .now) bs (c .write-in-Drawn .last .self))
     (same-row (held (c .args .self .now)) (c .places-places .result) (c .moves-moves .result) 2 (c .top-top .result) (c .draw-draw .result)
-      (c .places-places .ensures) (c .moves-moves .ensures) (c .in-Drawn .ensures tt) (c .top-top .ensures) (c .draw-draw .ensures))
+    (c .places-places .ensures) (c .moves-moves .ensures) (c .in-Drawn .ensures tt) (c .top-top .ensures) (c .draw-draw .ensures))
     (c .write-in-Drawn .ensures .shows plain ok)
