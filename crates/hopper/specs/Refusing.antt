@@ -1,6 +1,6 @@
 -- How a call refuses: by the first of its checks that fails.
 use mathlib.Core.Path.{_≡_}
-use mathlib.Core.Bool.{cond}
+use mathlib.Core.Bool.{Bool, cond}
 use mathlib.Core.List.{List, [], _∷_}
 use Rattle.std.specs.Results.{isOk}
 use Rattle.std.specs.declared.result.Result.{Result}
@@ -20,6 +20,10 @@ ifAccepted r new old = cond (isOk r) new old
 -- what the checks alone answer
 abbrev pub verdict : List Check → Result (Unit {0}) Fault
 verdict cs = refuse cs tt
+
+-- no check fails
+abbrev pub passes : List Check → Bool
+passes cs = isOk (verdict cs)
 
 -- a call with these checks answers r: it accepts where none fails, with P of its answer, and is else refused by the first that fails, with Q
 abbrev pub Answers : {A : Type 0} → List Check → (A → Type 0) → Type 0 → Result A Fault → Type 0

@@ -4,6 +4,9 @@ ghost use mathlib.Core.List.{List};
 ghost use Prim.Native.Nat.{ℕ};
 ghost use Rattle.hopper.specs.Faults.{refusalNumber, layerNumber, check, checkAt};
 ghost use Rattle.hopper.specs.Refusing.{verdict};
+ghost use Rattle.hopper.specs.Texts.{refusedText};
+ghost use Rattle.std.specs.declared.option.Option.the-variants.{Some};
+use std::fmt;
 
 pub mod board;
 pub mod closed;
@@ -171,4 +174,16 @@ pub fn pass(checks: &[Check]) -> Result<(), Fault>
         }
     }
     Ok(())
+}
+
+// A fault as every program of the planner prints it: `refused` with its number, its layer and its spot.
+pub impl fmt::Display for Fault as FaultDisplay {
+    ghost shown = { λ f. Some (refusedText f) };
+
+    fn fmt<W: fmt::Write>(&self, f: &mut fmt::Formatter<W>) -> fmt::Result {
+        let number = self.number();
+        let layer = self.layer.number();
+        let spot = self.spot;
+        write!(f, "refused {number} {layer} {spot}")
+    }
 }

@@ -32,7 +32,7 @@ use Rattle.hopper.specs.declared.Refusal.the-variants.{NoSuchPlace, RowTooShort
 use Rattle.hopper.specs.Boards.{ownerAt, stepAt, countAt}
 use Rattle.hopper.specs.Faults.{fault, check}
 use Rattle.hopper.specs.Refusing.{verdict}
-use Rattle.hopper.proofs.Refusing.{refused-more, passed-more}
+use Rattle.hopper.proofs.Refusing.{first-refuses, second-decides}
 use Rattle.hopper.proofs.Boards.{step-at, step-below, step-inside, owner-some, owner-there}
 use Rattle.solver.specs.Entries.{never, entries}
 use Rattle.solver.specs.Least.{Parts, GoodFrom}
@@ -140,14 +140,14 @@ module _ (g : Game) (wf : WellFormed g) (top : ℕ) (t : Table) (row : List ℕ)
   pub refused-answer : (r : Result ℕ Fault) (e : Fault) → r ≡ Err e → verdict (asked g (length row) p) ≡ Err e → PlanAnswers g top t row p r
   refused-answer r e is h =
       subst (PlanAnswers g top t row p) (sym is)
-      (refused-more (asked g (length row) p) (check true NoMoveServes Rest p ∷ []) e h, λ ok. absurd (clash h ok))
+      (sym (first-refuses (asked g (length row) p) (check true NoMoveServes Rest p ∷ []) tt e (sym h)), λ ok. absurd (clash h ok))
 
   pub refused-served : (r : Result ℕ Fault) (e : Fault) → verdict (asked g (length row) p) ≡ Err e → AnswersWhereGood g top t row p r
   refused-served r e h good room own number = absurd (clash h (passes room own))
 
   -- no move serves, after all the other checks
   pub unserved-answer : verdict (asked g (length row) p) ≡ Ok tt → ((m : ℕ) → ¬ NeedsNoMore g top t (entries row) p m) → PlanAnswers g top t row p (Err (fault NoMoveServes Rest p))
-  unserved-answer h none = (passed-more (asked g (length row) p) (check true NoMoveServes Rest p ∷ []) h, λ ok. none)
+  unserved-answer h none = (sym (second-decides (asked g (length row) p) (check true NoMoveServes Rest p ∷ []) tt tt (sym h)), λ ok. none)
 
 -- ---- a run that follows the plan
 module _ (g : Game) (wf : WellFormed g) (top : ℕ) (t : Table) (keeps : Keeps top t) (row : List ℕ) (good : GoodFrom g top t row) where

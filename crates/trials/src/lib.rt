@@ -1,0 +1,3 @@
+// The tests that run: tables of cases for the calls of the libraries.
+#[cfg(test)]
+mod files;
