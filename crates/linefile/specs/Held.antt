@@ -1,9 +1,8 @@
 -- The file that a line stands on, the line it holds, and its names.
 use mathlib.Core.Path.{_≡_}
-use mathlib.Core.Bool.{true, cond}
+use mathlib.Core.Bool.{true}
 use mathlib.Core.List.{List}
 use Prim.Native.Nat.{ℕ}
-use lib.Dec.{ltb}
 use lib.ListN.{length, take, drop}
 use Rattle.std.specs.Options.{mapped}
 use Rattle.std.specs.declared.option.Option.{Option}
@@ -12,7 +11,6 @@ use Rattle.hopper.specs.Refusing.{passes}
 use Rattle.lineformat.specs.declared.MoveRecord.{MoveRecord}
 use Rattle.lineformat.specs.declared.PlaceRecord.{PlaceRecord}
 use Rattle.lineformat.specs.Format.{Line, lineOf, encode}
-use Rattle.lineformat.specs.WellFormed.{nameOf, lettersBefore}
 use Rattle.lineformat.specs.Checks.{writeChecks}
 use Rattle.linefile.specs.declared.FileLine.{FileLine}
 use Rattle.linefile.specs.declared.Name.{Name}
@@ -22,10 +20,6 @@ fileOf b = b .bytes .now
 
 abbrev pub held : FileLine → Line
 held b = lineOf (fileOf b)
-
--- the letters of a place's name with their offset, which is what the names before it take; nothing where there is no such place
-abbrev pub nameAt : Line → ℕ → Option (List ℕ × ℕ)
-nameAt l p = cond (ltb p (length (l .places))) (Some (nameOf l p, lettersBefore l p)) None
 
 -- a name that was handed out, by its letters and its offset
 abbrev pub named : Option Name → Option (List ℕ × ℕ)

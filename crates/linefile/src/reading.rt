@@ -2,20 +2,22 @@
 ghost use mathlib.Core.Path.{_≡_};
 ghost use mathlib.Core.Bool.{true};
 ghost use mathlib.Core.List.{List, _++_};
-ghost use Prim.Native.Nat.{ℕ, _≤_, _<_};
-ghost use lib.ListN.{length, drop};
+ghost use Prim.Native.Nat.{ℕ, _-_, _≤_, _<_};
+ghost use lib.ListN.{length, take, drop};
 ghost use Rattle.std.specs.Finite.{nth};
 ghost use Rattle.std.specs.Options.{Cases as BySome};
 ghost use Rattle.std.specs.Results.{isOk};
+ghost use Rattle.std.specs.declared.option.Option.the-variants.{Some, None};
+ghost use Rattle.std.specs.declared.result.Result.the-variants.{Ok};
 ghost use Rattle.hopper.specs.Refusing.{verdict, passes, ifAccepted};
 ghost use Rattle.lineformat.specs.Kinds.{kindNumber};
-ghost use Rattle.lineformat.specs.Limits.{trailerSize};
-ghost use Rattle.lineformat.specs.Format.{builtIn, placeOf, numbersIn, offsetsIn};
-ghost use Rattle.lineformat.specs.WellFormed.{movesOf, movesBefore, lettersBefore, WellFormedLine};
-ghost use Rattle.lineformat.specs.Checks.{sizeChecks, versionChecks, distanceChecks, trailerChecks, readChecks, unpackChecks};
+ghost use Rattle.lineformat.specs.Limits.{trailerSize, mostDraw};
+ghost use Rattle.lineformat.specs.Format.{builtIn, lineOf, numbersOf, numbersIn, offsetsIn};
+ghost use Rattle.lineformat.specs.WellFormed.{movesOf, nameAt, SoundNumbers, WellFormedLine};
+ghost use Rattle.lineformat.specs.Checks.{sizeChecks, versionChecks, distanceChecks, trailerChecks, readChecks, accepts, unpackChecks};
 ghost use Rattle.lineformat.specs.Laws.{AcceptsJustTheWritten};
-ghost use Rattle.lineformat.proofs.Sound.{SpanOf};
-ghost use Rattle.linefile.specs.Held.{fileOf, held, nameAt, named, PartOf, retabled, WritesAgain};
+ghost use Rattle.lineformat.proofs.Spelt.{builtInFile, NameIn};
+ghost use Rattle.linefile.specs.Held.{fileOf, held, named, PartOf, retabled, WritesAgain};
 use super::FileLine;
 use super::Name;
 use super::Trailed;
@@ -160,15 +162,6 @@ fn check_file(file: &[u8]) -> Result<(), Fault>
     check_records(&Trailed { bytes: file })
 }
 
-// Where the moves of a place lie among all moves, and its name among all names: how many come before, and how many there are.
-#[derive(Clone, Copy)]
-struct Span {
-    before: usize,
-    moves: usize,
-    offset: usize,
-    letters: usize,
-}
-
 // What is accepted is what the writer makes.
 fn accepts_just_the_written(file: &[u8])
     ensures { λ _. ⌜ AcceptsJustTheWritten (now (file .entry)) ⌝ }
@@ -176,11 +169,28 @@ fn accepts_just_the_written(file: &[u8])
     octets(file);
 }
 
+// The file of the built-in line is accepted, and spells that line.
+fn built_in_file(file: &[u8])
+    requires { ⌜ now file ≡ builtInFile ⌝ }
+    ensures accepted { λ _. ⌜ accepts (now (file .entry)) ≡ true ⌝ }
+    ensures line { λ _. ⌜ lineOf (now (file .entry)) ≡ builtIn ⌝ }
+{
+    let _n = file.len();
+}
+
+// Where the name of a place begins and ends in the file.
+#[derive(Clone, Copy)]
+struct Span {
+    offset: usize,
+    end: usize,
+}
+
 impl<'a> FileLine<'a> {
     // The line to begin with: one place of ours that leads to itself with 0, over lip 0.
     pub fn built_in() -> FileLine<'a>
         ensures { λ r. ⌜ held r ≡ builtIn ⌝ }
     {
+        built_in_file(BUILT_IN);
         FileLine { bytes: BUILT_IN }
     }
 
@@ -213,24 +223,33 @@ impl<'a> FileLine<'a> {
         let _n = self.bytes.len();
     }
 
+    // The numbers of the line.
+    fn numbers(&self) -> Numbers
+        ensures value { λ r. ⌜ r ≡ numbersOf (held (now (self .entry))) ⌝ }
+        ensures sound { λ r. ⌜ SoundNumbers r ⌝ }
+        ensures small { λ r. ⌜ r .draw ≤ mostDraw ⌝ }
+    {
+        self.formed();
+        let _at = self.trailed().parts();
+        numbers_in(self.bytes)
+    }
+
     pub fn places(&self) -> usize
         ensures { λ r. ⌜ r ≡ length (held (now (self .entry)) .places) ⌝ }
     {
-        self.trailed().places()
+        self.numbers().places as usize
     }
 
     pub fn moves(&self) -> usize
         ensures { λ r. ⌜ r ≡ length (held (now (self .entry)) .moves) ⌝ }
     {
-        self.trailed().moves()
+        self.numbers().moves as usize
     }
 
     pub fn kind(&self) -> Kind
         ensures { λ r. ⌜ kindNumber r ≡ held (now (self .entry)) .kind ⌝ }
     {
-        self.formed();
-        let t = self.trailed().parts().trailer;
-        match self.bytes[t + 10] {
+        match self.numbers().kind {
             0 => Kind::Lip,
             1 => Kind::Closed,
             _ => Kind::Drawn,
@@ -240,80 +259,93 @@ impl<'a> FileLine<'a> {
     pub fn top(&self) -> u32
         ensures { λ r. ⌜ r ≡ held (now (self .entry)) .top ⌝ }
     {
-        let t = self.trailed().parts().trailer;
-        four_at(self.bytes, t + 4)
+        self.numbers().top as u32
     }
 
     pub fn draw(&self) -> u16
         ensures { λ r. ⌜ r ≡ held (now (self .entry)) .draw ⌝ }
     {
-        let t = self.trailed().parts().trailer;
-        two_at(self.bytes, t + 8)
+        self.numbers().draw as u16
     }
 
     // The record of a place, or nothing where there is no such place.
     pub fn place(&self, p: usize) -> Option<PlaceRecord>
         ensures { λ r. ⌜ r ≡ nth (held (now (self .entry)) .places) p ⌝ }
     {
-        let records = self.trailed();
-        if p < records.places() {
-            Some(records.place(p))
-        } else {
-            None
-        }
+        self.trailed().place_at(p)
     }
 
     // The record of a move by its number in the file, where the moves of all places lie one after another.
     pub fn step(&self, m: usize) -> Option<MoveRecord>
         ensures { λ r. ⌜ r ≡ nth (held (now (self .entry)) .moves) m ⌝ }
     {
-        let records = self.trailed();
-        if m < records.moves() {
-            Some(records.step(m))
-        } else {
-            None
-        }
+        self.trailed().step_at(m)
     }
 
-    // Where the moves and the name of a place lie.
-    fn span(&self, p: usize) -> Option<Span>
-        ensures { λ r. ⌜ BySome r (length (held (now (self .entry)) .places) ≤ p) (λ s. SpanOf (fileOf (now (self .entry))) p (s .before) (s .moves) (s .offset) (s .letters)) ⌝ }
+    // The number in the file of move `m` of place `p`.
+    fn file_number(&self, p: usize, m: usize) -> Option<usize>
+        ensures { λ r. ⌜ BySome r (nth (movesOf (held (now (self .entry))) p) m ≡ None) (λ n. nth (movesOf (held (now (self .entry))) p) m ≡ nth (held (now (self .entry)) .moves) n) ⌝ }
     {
         self.formed();
         let records = self.trailed();
-        if p >= records.places() {
+        if p >= records.places() || m >= records.place(p).moves as usize {
             return None;
         }
-        let (before, offset) = totals(&records, p);
-        let place = records.place(p);
-        Some(Span {
-            before,
-            moves: place.moves as usize,
-            offset,
-            letters: place.letters as usize,
-        })
+        let (before, _) = totals(&records, p);
+        Some(before + m)
     }
 
     // The record of move `m` of place `p`, counted from 0 within the place.
     pub fn step_of(&self, p: usize, m: usize) -> Option<MoveRecord>
         ensures { λ r. ⌜ r ≡ nth (movesOf (held (now (self .entry))) p) m ⌝ }
     {
-        let Some(span) = self.span(p) else {
-            return None;
-        };
-        if m < span.moves {
-            self.step(span.before + m)
-        } else {
-            None
+        match self.file_number(p, m) {
+            Some(number) => self.step(number),
+            None => None,
         }
+    }
+
+    // Where the names end, and the moves begin.
+    fn names_end(&self) -> usize
+        ensures { λ r. ⌜ (take r (fileOf (now (self .entry))) ≡ held (now (self .entry)) .names) × (r ≤ length (fileOf (now (self .entry)))) ⌝ }
+    {
+        self.trailed().parts().names
     }
 
     // The names of all places, one after another, as that part of the file.
     pub fn names(&self) -> &'a [u8]
         ensures { λ r. ⌜ now r ≡ held (now (self .entry)) .names ⌝ }
     {
-        let end = self.trailed().parts().names;
+        let end = self.names_end();
         &self.bytes[0..end]
+    }
+
+    // Where the name of a place lies.
+    fn name_span(&self, p: usize) -> Option<Span>
+        ensures { λ r. ⌜ BySome r (nameAt (held (now (self .entry))) p ≡ None) (λ s. NameIn (held (now (self .entry))) (fileOf (now (self .entry))) p (s .offset) (s .end)) ⌝ }
+    {
+        self.formed();
+        let records = self.trailed();
+        if p >= records.places() {
+            return None;
+        }
+        let (_, offset) = totals(&records, p);
+        Some(Span {
+            offset,
+            end: offset + records.place(p).letters as usize,
+        })
+    }
+
+    // A part of the file as a name.
+    fn cut(&self, offset: usize, end: usize) -> Name<'a>
+        requires { ⌜ offset ≤ end ⌝ ∗ ⌜ end ≤ length (fileOf (now self)) ⌝ }
+        ensures value { λ r. ⌜ (r .letters .now ≡ take (end - offset) (drop offset (fileOf (now (self .entry))))) × (r .offset ≡ offset) ⌝ }
+        ensures part { λ r. ⌜ PartOf (fileOf (now (self .entry))) (Some r) ⌝ }
+    {
+        Name {
+            letters: &self.bytes[offset..end],
+            offset,
+        }
     }
 
     // The name of a place, or nothing where there is no such place.
@@ -321,15 +353,10 @@ impl<'a> FileLine<'a> {
         ensures value { λ r. ⌜ named r ≡ nameAt (held (now (self .entry))) p ⌝ }
         ensures part { λ r. ⌜ PartOf (fileOf (now (self .entry))) r ⌝ }
     {
-        let Some(span) = self.span(p) else {
-            return None;
-        };
-        let offset = span.offset;
-        let end = offset + span.letters;
-        Some(Name {
-            letters: &self.bytes[offset..end],
-            offset,
-        })
+        match self.name_span(p) {
+            Some(span) => Some(self.cut(span.offset, span.end)),
+            None => None,
+        }
     }
 
     // Checks tables with so many entries for places and for moves.
@@ -345,6 +372,19 @@ impl<'a> FileLine<'a> {
         )
     }
 
+    // Fills tables that pass the checks.
+    fn fill_tables(&self, places: &mut [PlaceRecord], moves: &mut [MoveRecord])
+        requires { ⌜ Ok tt ≡ verdict (unpackChecks (held (now self)) (length (now places)) (length (now moves))) ⌝ }
+        ensures places { λ _. ⌜ now (places .exit) ≡ held (now (self .entry)) .places ++ drop (length (held (now (self .entry)) .places)) (now (places .entry)) ⌝ }
+        ensures moves { λ _. ⌜ now (moves .exit) ≡ held (now (self .entry)) .moves ++ drop (length (held (now (self .entry)) .moves)) (now (moves .entry)) ⌝ }
+        ensures again { λ _. ⌜ WritesAgain (fileOf (now (self .entry))) (retabled (held (now (self .entry))) (now (places .exit)) (now (moves .exit))) ⌝ }
+    {
+        accepts_just_the_written(self.bytes);
+        let at = self.trailed().parts();
+        fill(self.bytes, at.first, at.places, places);
+        fill(self.bytes, at.names, at.moves, moves);
+    }
+
     // Fills a record for each place and for each move into two tables; where a table is too short, it fills neither.
     pub fn unpack(&self, places: &mut [PlaceRecord], moves: &mut [MoveRecord]) -> Result<(), Fault>
         ensures answer { λ r. ⌜ r ≡ verdict (unpackChecks (held (now (self .entry))) (length (now (places .entry))) (length (now (moves .entry)))) ⌝ }
@@ -352,13 +392,10 @@ impl<'a> FileLine<'a> {
         ensures moves { λ r. ⌜ now (moves .exit) ≡ ifAccepted r (held (now (self .entry)) .moves ++ drop (length (held (now (self .entry)) .moves)) (now (moves .entry))) (now (moves .entry)) ⌝ }
         ensures again { λ r. ⌜ (isOk r ≡ true → WritesAgain (fileOf (now (self .entry))) (retabled (held (now (self .entry))) (now (places .exit)) (now (moves .exit)))) ⌝ }
     {
-        accepts_just_the_written(self.bytes);
-        let at = self.trailed().parts();
         match self.check_tables(places.len(), moves.len()) {
             Err(fault) => Err(fault),
             Ok(()) => {
-                fill(self.bytes, at.first, at.places, places);
-                fill(self.bytes, at.names, at.moves, moves);
+                self.fill_tables(places, moves);
                 Ok(())
             }
         }

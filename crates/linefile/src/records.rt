@@ -3,6 +3,7 @@ ghost use mathlib.Core.Path.{_≡_};
 ghost use mathlib.Core.List.{List};
 ghost use Prim.Native.Nat.{ℕ, _<_, _≤_};
 ghost use lib.ListN.{length, getD};
+ghost use Rattle.std.specs.Finite.{nth};
 ghost use Rattle.hopper.specs.Refusing.{verdict};
 ghost use Rattle.lineformat.specs.Limits.{mostPlaces};
 ghost use Rattle.lineformat.specs.Format.{Line, lineOf, placeOf, moveOf};
@@ -96,6 +97,28 @@ impl<'a> Trailed<'a> {
             trailer,
             first: trailer - 4 * places,
             names: trailer - 4 * (moves + places),
+        }
+    }
+}
+
+impl<'a> Trailed<'a> {
+    pub(crate) fn place_at(&self, p: usize) -> Option<PlaceRecord>
+        ensures { λ r. ⌜ r ≡ nth (lineOf (now (self .entry) .bytes .now) .places) p ⌝ }
+    {
+        if p < self.places() {
+            Some(self.place(p))
+        } else {
+            None
+        }
+    }
+
+    pub(crate) fn step_at(&self, m: usize) -> Option<MoveRecord>
+        ensures { λ r. ⌜ r ≡ nth (lineOf (now (self .entry) .bytes .now) .moves) m ⌝ }
+    {
+        if m < self.moves() {
+            Some(self.step(m))
+        } else {
+            None
         }
     }
 }

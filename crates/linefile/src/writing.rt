@@ -4,6 +4,7 @@ ghost use mathlib.Core.Bool.{true};
 ghost use mathlib.Core.List.{List, _++_};
 ghost use Prim.Native.Nat.{ℕ, _+_, _*_, _≤_};
 ghost use lib.ListN.{length, drop};
+ghost use Rattle.std.specs.Results.{isOk};
 ghost use Rattle.hopper.specs.Refusing.{refuse, verdict, passes, ifAccepted};
 ghost use Rattle.lineformat.specs.Limits.{mostPlaces, mostMoves, trailerSize};
 ghost use Rattle.lineformat.specs.Format.{numbersOf, trailerBytes, encode};
@@ -101,9 +102,19 @@ impl<'a> LineTables<'a> {
         let _n = self.names.len();
     }
 
+    // A line that passes all checks has short parts, and its file fits.
+    fn fits(&self, room: usize)
+        requires { ⌜ passes (writeChecks (lineIn (now self)) room) ≡ true ⌝ }
+        ensures size { λ _. ⌜ SizeOf (lineIn (now (self .entry))) (length (encode (lineIn (now (self .entry))))) ⌝ }
+        ensures room { λ _. ⌜ length (encode (lineIn (now (self .entry)))) ≤ room ⌝ }
+    {
+        let _n = self.names.len();
+    }
+
     // Checks the line and the room, and answers the length of the file.
     fn check(&self, room: usize) -> Result<usize, Fault>
-        ensures { λ r. ⌜ r ≡ refuse (writeChecks (lineIn (now (self .entry))) room) (length (encode (lineIn (now (self .entry))))) ⌝ }
+        ensures passed { λ r. ⌜ (isOk r ≡ true → passes (writeChecks (lineIn (now (self .entry))) room) ≡ true) ⌝ }
+        ensures answer { λ r. ⌜ r ≡ refuse (writeChecks (lineIn (now (self .entry))) room) (length (encode (lineIn (now (self .entry))))) ⌝ }
     {
         self.check_line()?;
         let size = self.size();
@@ -150,9 +161,10 @@ impl<'a> LineTables<'a> {
 
     // Puts the four parts of the file one after another.
     fn put(&self, out: &mut [u8])
-        requires { ⌜ SizeOf (lineIn (now self)) (length (encode (lineIn (now self)))) ⌝ ∗ ⌜ length (encode (lineIn (now self))) ≤ length (now out) ⌝ }
+        requires { ⌜ passes (writeChecks (lineIn (now self)) (length (now out))) ≡ true ⌝ }
         ensures { λ _. ⌜ now (out .exit) ≡ encode (lineIn (now (self .entry))) ++ drop (length (encode (lineIn (now (self .entry))))) (now (out .entry)) ⌝ }
     {
+        self.fits(out.len());
         let moves = self.names.len();
         let places = moves + self.moves.len() * 4;
         let trailer = places + self.places.len() * 4;

@@ -24,11 +24,12 @@ use Rattle.lineformat.specs.declared.MoveRecord.{MoveRecord}
 use Rattle.lineformat.specs.declared.PlaceRecord.{PlaceRecord}
 use Rattle.lineformat.specs.Limits.{mostPlaces, mostMoves, trailerSize}
 use Rattle.lineformat.specs.Format.{Line, numbersOf, inTwo, inFour, twoAt, fourAt, moveBytes, placeBytes, trailerBytes, moveAt, placeAt, recordsAt, placeOf, moveOf, noMove, noPlace, encode, lineOf, trailer, numbersIn, versionIn, distanceIn, placesIn, movesIn, placesFrom, movesFrom}
-use Rattle.lineformat.specs.WellFormed.{WellFormedLine, SoundDraw}
+use Rattle.lineformat.specs.WellFormed.{WellFormedLine}
 use Rattle.lineformat.specs.Checks.{trailerChecks, recordChecks, readChecks, accepts}
 use Rattle.lineformat.proofs.Scan.{sum-most, sum-part}
 use Rattle.lineformat.proofs.Tables.{length-joined}
 use Rattle.lineformat.proofs.Sound.{SoundTrailer, trailer-passes, records-pass}
+use Rattle.lineformat.proofs.Tests.{draw-small}
 
 two-bytes : (n : ℕ) → n < 65536 → n % 256 + n / 256 % 256 * 256 ≡ n
 two-bytes n h = let a : n / 256 % 256 ≡ n / 256 = (let b : n / 256 < 256 = omega arith in omega arith) in omega arith
@@ -206,9 +207,6 @@ distance-in l h =
     let d : getD (encode l) (t + 12 + 3) 0 ≡ n / 16777216 % 256 = tail-byte l 15 (t + 12 + 3) (omega arith) in
     let e = four-bytes n h in
     cc
-
-draw-small : (kind draw : ℕ) → SoundDraw kind draw → draw ≤ 10000
-draw-small kind draw s = ⊎-elim (λ e. s .0 e .1) (λ n. let z : draw ≡ 0 = s .1 n in omega arith) (cases-eq kind 2)
 
 abbrev lineWith : List PlaceRecord → List MoveRecord → List ℕ → ℕ → ℕ → ℕ → Line
 lineWith ps ms ns k t d = record { places = ps; moves = ms; names = ns; kind = k; top = t; draw = d }

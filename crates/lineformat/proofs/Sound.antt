@@ -2,13 +2,15 @@
 use mathlib.Core.Path.{_≡_, refl, ap, sym, _∙_}
 use mathlib.Core.Bool.{Bool, true, false, not, _||_}
 use mathlib.Core.List.{List, [], _∷_, _++_}
-use Prim.Native.Nat.{ℕ, _+_, _*_, _<_, _≤_}
+use Prim.Native.Nat.{ℕ, _+_, _-_, _*_, _<_, _≤_}
 use native.Mathlib.Omega.{arith}
 use lib.Dec.{ltb, eqb}
 use lib.IntN.{natAbs}
-use lib.ListN.{length, getD}
+use lib.ListN.{length, getD, take, drop}
+use Rattle.std.specs.Finite.{nth}
+use Rattle.std.specs.declared.option.Option.the-variants.{Some, None}
 use Rattle.std.specs.Options.{isSome}
-use Rattle.std.proofs.shelf.Tests.{ltb-true, ltb-false, le-ltb, lt-ltb, or-from, or-parts, eqb-false, ne-eqb, not-false}
+use Rattle.std.proofs.shelf.Tests.{cond-true, ltb-true, ltb-false, le-ltb, lt-ltb, or-from, or-parts, eqb-false, ne-eqb, not-false}
 use Rattle.hopper.specs.Refusing.{passes}
 use Rattle.hopper.proofs.Refusing.{none-fails, all-pass, passed-both, pass-both}
 use Rattle.lineformat.specs.declared.MoveRecord.{MoveRecord}
@@ -17,11 +19,11 @@ use Rattle.lineformat.specs.declared.Part.the-variants.{Places, Letters, Moves
 use Rattle.lineformat.specs.declared.PlaceRecord.{PlaceRecord}
 use Rattle.lineformat.specs.Limits.{longestFile, trailerSize, onlyVersion, lastKind, lastOwner, mostPlaces, mostMoves, mostAmount, mostTop, longestName, firstLetter, lastLetter}
 use Rattle.lineformat.specs.Format.{Line, numbersOf, placeOf, moveOf, lineOf, trailer, numbersIn, offsetsIn, versionIn, distanceIn, placesIn, movesIn}
-use Rattle.lineformat.specs.WellFormed.{movesBefore, lettersBefore, SoundNumbers, SoundPlace, SoundMove, WellFormedLine}
+use Rattle.lineformat.specs.WellFormed.{movesBefore, lettersBefore, movesOf, nameOf, nameAt, SoundNumbers, SoundPlace, SoundMove, WellFormedLine}
 use Rattle.lineformat.specs.Checks.{outside, unequal, badDraw, badPlace, badMove, badLetter, badTotals, isBad, numberChecks, recordChecks, sizeChecks, versionChecks, distanceChecks, trailerChecks, readChecks, accepts, unpackChecks}
 use Rattle.lineformat.proofs.Tests.{is-none, within, not-outside, equal-no, no-equal, draw-sound, draw-good}
 use Rattle.lineformat.proofs.Scan.{none-is-bad, none-found, sum-front}
-use Rattle.lineformat.proofs.Spelt.{count-places, count-moves, count-names}
+use Rattle.lineformat.proofs.Spelt.{count-places, count-moves, count-names, in-names, nth-part, NameIn}
 
 pub numbers-sound : (n spot : Numbers) → passes (numberChecks n spot) ≡ true → SoundNumbers n
 unfolding numberChecks
@@ -189,37 +191,29 @@ unfolding readChecks
 accepted-line bs e =
     well-formed (lineOf bs) (line-numbers bs (accepted-trailer bs e)) (passed-both (trailerChecks bs) (recordChecks (lineOf bs)) e .1)
 
--- where the moves and the name of a place of an accepted file lie
-pub record SpanOf (bs : List ℕ) (p before moves offset letters : ℕ) : Type 0 where
-  pub present : p < length (lineOf bs .places)
-  pub before-is : before ≡ movesBefore (lineOf bs) p
-  pub moves-is : moves ≡ placeOf (lineOf bs) p .moves
-  pub offset-is : offset ≡ lettersBefore (lineOf bs) p
-  pub letters-is : letters ≡ placeOf (lineOf bs) p .letters
-  pub moves-within : before + moves ≤ length (lineOf bs .moves)
-  pub few-moves : length (lineOf bs .moves) ≤ mostMoves
-  pub letters-within : offset + letters ≤ length (lineOf bs .names)
-  pub inside : offset + letters ≤ length bs
-
-pub span-of : (bs : List ℕ) (p before offset : ℕ) (r : PlaceRecord) → WellFormedLine (lineOf bs) → p < length (lineOf bs .places)
-    → before ≡ movesBefore (lineOf bs) p → offset ≡ lettersBefore (lineOf bs) p → r ≡ placeOf (lineOf bs) p → SpanOf bs p before (r .moves) offset (r .letters)
-span-of bs p before offset r w h eb eo er =
-    let m : r .moves ≡ placeOf (lineOf bs) p .moves = ap (λ (x : PlaceRecord). x .moves) er in
-    let l : r .letters ≡ placeOf (lineOf bs) p .letters = ap (λ (x : PlaceRecord). x .letters) er in
-    let i = in-letters (lineOf bs) w p h in
-    let j = in-moves (lineOf bs) w p h in
+-- the name of a place of a well-formed line, in its file
+pub name-in : (bs : List ℕ) → WellFormedLine (lineOf bs) → (p offset letters : ℕ) → p < length (lineOf bs .places) → offset ≡ lettersBefore (lineOf bs) p → letters ≡ placeOf (lineOf bs) p .letters
+    → NameIn (lineOf bs) bs p offset (offset + letters)
+name-in bs w p o k h eo ek =
+    let l = lineOf bs in
+    let i = in-letters l w p h in
     let c = count-names bs in
+    let z : o + k - o ≡ k = omega arith in
+    let here : nameOf l p ≡ take (o + k - o) (drop o bs) =
+    ap (λ x. take x (drop (lettersBefore l p) (l .names))) (sym ek) ∙ ap (λ x. take k (drop x (l .names))) (sym eo) ∙ in-names bs o k (omega arith) ∙ ap (λ x. take x (drop o bs)) (sym z) in
     record {
-      present = h;
-      before-is = eb;
-      moves-is = m;
-      offset-is = eo;
-      letters-is = l;
-      moves-within = omega arith;
-      few-moves = w .numbers .few-moves;
-      letters-within = omega arith;
+      name-is = cond-true (ltb p (length (l .places))) (Some (nameOf l p, lettersBefore l p)) None (lt-ltb p (length (l .places)) h)
+          ∙ ap (λ x. Some (x, lettersBefore l p)) here ∙ ap (λ x. Some (take (o + k - o) (drop o bs), x)) (sym eo);
+      rising = omega arith;
       inside = omega arith;
     }
+
+-- the number in the file of a move of a place
+pub move-in : (l : Line) → WellFormedLine l → (p m before count : ℕ) → p < length (l .places) → before ≡ movesBefore l p → count ≡ placeOf l p .moves → m < count
+    → (nth (movesOf l p) m ≡ nth (l .moves) (before + m)) × (before + m < length (l .moves))
+move-in l w p m b k h eb ek lt =
+    let i = in-moves l w p h in
+    (nth-part (l .moves) (movesBefore l p) (placeOf l p .moves) m (omega arith) ∙ ap (λ x. nth (l .moves) (x + m)) (sym eb), omega arith)
 
 -- tables that pass the checks are long enough
 pub tables-fit : (l : Line) (places moves : ℕ) → passes (unpackChecks l places moves) ≡ true → (length (l .places) ≤ places) × (length (l .moves) ≤ moves)

@@ -11,10 +11,11 @@ use Rattle.std.proofs.shelf.Counted.{length-map-counting, getD-map-counting}
 use Rattle.std.proofs.shelf.Lists.{getD-past, getD-take, length-take-le, length-take, drop-take, take-take}
 use Rattle.std.proofs.shelf.Maps.{nth-past}
 use Rattle.lineformat.specs.declared.MoveRecord.{MoveRecord}
+use Rattle.lineformat.specs.declared.Numbers.{Numbers}
 use Rattle.lineformat.specs.declared.PlaceRecord.{PlaceRecord}
 use Rattle.lineformat.specs.Limits.{mostPlaces, trailerSize}
-use Rattle.lineformat.specs.Format.{Line, placeOf, moveOf, noPlace, noMove, placeAt, moveAt, recordsAt, lineOf, trailer, placesIn, movesIn, placesFrom, movesFrom}
-use Rattle.lineformat.specs.WellFormed.{movesBefore, movesOf}
+use Rattle.lineformat.specs.Format.{Line, placeOf, moveOf, noPlace, noMove, placeAt, moveAt, recordsAt, lineOf, numbersOf, numbersIn, trailer, placesIn, movesIn, placesFrom, movesFrom}
+use Rattle.lineformat.specs.WellFormed.{movesBefore, movesOf, nameAt}
 
 pub count-places : (bs : List ℕ) → length (lineOf bs .places) ≡ placesIn bs
 unfolding lineOf
@@ -67,6 +68,13 @@ nth-part xs o k m h = nth-take k m (drop o xs) h ∙ nth-drop o m xs
 pub nth-part-past : {X : Type 0} (xs : List X) (o k m : ℕ) → k ≤ m → nth (take k (drop o xs)) m ≡ None
 nth-part-past xs o k m h = nth-past (take k (drop o xs)) m (simp length-take (omega arith))
 
+-- the numbers in the trailer are those of the line
+pub numbers-are : (bs : List ℕ) → numbersIn bs ≡ numbersOf (lineOf bs)
+unfolding lineOf
+numbers-are bs =
+    let N : ℕ → ℕ → Numbers = λ n m. record { places = n; moves = m; top = numbersIn bs .top; draw = numbersIn bs .draw; kind = numbersIn bs .kind } in
+    ap (λ n. N n (movesIn bs)) (sym (count-places bs)) ∙ ap (N (length (lineOf bs .places))) (sym (count-moves bs))
+
 -- one letter of the names
 pub one-letter : (bs : List ℕ) (i : ℕ) → i < length (lineOf bs .names) → getD (lineOf bs .names) i 0 ≡ getD bs i 0
 unfolding lineOf
@@ -103,3 +111,13 @@ pub record PartsOf (bs : List ℕ) (places moves trail first names : ℕ) : Type
   pub moves-end : names + moves * 4 ≡ first
   pub places-end : first + places * 4 ≡ trail
   pub trailer-end : trail + trailerSize ≡ length bs
+
+-- the bytes of the built-in line
+abbrev pub builtInFile : List ℕ
+builtInFile = 0 ∷ 0 ∷ 0 ∷ 0 ∷ 0 ∷ 0 ∷ 1 ∷ 0 ∷ 1 ∷ 0 ∷ 1 ∷ 0 ∷ 0 ∷ 0 ∷ 0 ∷ 0 ∷ 0 ∷ 0 ∷ 0 ∷ 1 ∷ 8 ∷ 0 ∷ 0 ∷ 0 ∷ []
+
+-- the name of a place is the part of the file from an offset to an end
+pub record NameIn (l : Line) (file : List ℕ) (p offset end : ℕ) : Type 0 where
+  pub name-is : nameAt l p ≡ Some (take (end - offset) (drop offset file), offset)
+  pub rising : offset ≤ end
+  pub inside : end ≤ length file

@@ -1,12 +1,14 @@
 -- What the tests of the checks say.
 use mathlib.Core.Path.{_≡_, refl, ap, sym, _∙_}
 use mathlib.Core.Bool.{Bool, true, false, cond, not}
+use mathlib.Core.Logic.{⊎-elim}
+use native.Mathlib.Omega.{arith}
 use Prim.Native.Nat.{ℕ, _<_, _≤_}
 use lib.Dec.{ltb, eqb}
 use Rattle.std.specs.Options.{isSome}
 use Rattle.std.specs.declared.option.Option.{Option}
 use Rattle.std.specs.declared.option.Option.the-variants.{Some, None}
-use Rattle.std.proofs.shelf.Tests.{cond-true, cond-false, true≢false, ltb-false, le-ltb, or-from, or-parts, eq-eqb, ne-eqb, eqb-true, not-false}
+use Rattle.std.proofs.shelf.Tests.{cases-eq, cond-true, cond-false, true≢false, ltb-false, le-ltb, or-from, or-parts, eq-eqb, ne-eqb, eqb-true, not-false}
 use Rattle.lineformat.specs.Limits.{drawnKind, mostDraw}
 use Rattle.lineformat.specs.WellFormed.{SoundDraw}
 use Rattle.lineformat.specs.Checks.{outside, unequal, badDraw}
@@ -39,3 +41,7 @@ draw-good kind draw s = by (eqb kind drawnKind) refl
     by : (b : Bool) → eqb kind drawnKind ≡ b → cond b (outside 1 mostDraw draw) (unequal draw 0) ≡ false
     by true e = let q = s .0 (eqb-true kind drawnKind e) in within 1 mostDraw draw (q .0) (q .1)
     by false e = equal-no draw 0 (s .1 (λ k. true≢false (sym (eq-eqb kind drawnKind k) ∙ e)))
+
+-- a sound draw is small, whatever the kind
+pub draw-small : (kind draw : ℕ) → SoundDraw kind draw → draw ≤ mostDraw
+draw-small kind draw s = ⊎-elim (λ e. s .0 e .1) (λ n. let z : draw ≡ 0 = s .1 n in omega arith) (cases-eq kind drawnKind)

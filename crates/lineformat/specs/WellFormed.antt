@@ -1,9 +1,13 @@
 -- Which lines are well formed.
 use mathlib.Core.Path.{_≡_}
+use mathlib.Core.Bool.{cond}
 use mathlib.Core.List.{List}
 use Prim.Native.Nat.{ℕ, zero, suc, _+_, _≤_, _<_}
+use lib.Dec.{ltb}
 use lib.ListN.{length, getD, take, drop}
 use lib.IntN.{natAbs}
+use Rattle.std.specs.declared.option.Option.{Option}
+use Rattle.std.specs.declared.option.Option.the-variants.{Some, None}
 use Rattle.lineformat.specs.declared.MoveRecord.{MoveRecord}
 use Rattle.lineformat.specs.declared.Numbers.{Numbers}
 use Rattle.lineformat.specs.declared.PlaceRecord.{PlaceRecord}
@@ -29,6 +33,10 @@ movesOf l p = take (placeOf l p .moves) (drop (movesBefore l p) (l .moves))
 -- the name of a place comes after those of the places before it
 abbrev pub nameOf : Line → ℕ → List ℕ
 nameOf l p = take (placeOf l p .letters) (drop (lettersBefore l p) (l .names))
+
+-- the letters of a place's name with their offset, which is what the names before it take; nothing where there is no such place
+abbrev pub nameAt : Line → ℕ → Option (List ℕ × ℕ)
+nameAt l p = cond (ltb p (length (l .places))) (Some (nameOf l p, lettersBefore l p)) None
 
 -- a draw belongs to drawn alone
 abbrev pub SoundDraw : ℕ → ℕ → Type 0
