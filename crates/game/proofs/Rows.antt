@@ -124,9 +124,6 @@ module _ (g : Game) (wf : WellFormed g) (top : ℕ) (t : Table) (keeps : Keeps t
   holds-up : (i p c c′ : ℕ) → (c ≤ c′) × (c′ ≤ top) → Holds g t i p c → Holds g t i p c′
   holds-up = simulate g wf t t (λ c c′. (c ≤ c′) × (c′ ≤ top)) higher
 
-  InRow : ℕ → ℕ → ℕ → Type 0
-  InRow j p c = (c ≤ top) × Holds g t j p c
-
   serve-out : (j : ℕ) (row : Row) → IsRow g t top j row → (c : ℕ) (e : Edge) → e .target < g .places → Through t (Holds g t j) c e → AtMost (serves need row e) c
   serve-out j row is c e lt th =
       let l = least-at-most (λ c. (c ≤ top) × Holds g t j (e .target) c) (row (e .target)) (is (e .target) lt) (th .0) (keeps .within c (e .amount) (th .0) (th .1), th .2) in

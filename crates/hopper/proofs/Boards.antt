@@ -1,11 +1,10 @@
 -- What an answer of a board says of its game.
 use mathlib.Core.Path.{_≡_, refl, sym, ap, _∙_, subst}
 use mathlib.Core.List.{List, [], _∷_}
-use Prim.Native.Nat.{ℕ, zero, suc, _≤_, _<_}
+use Prim.Native.Nat.{ℕ, zero, suc, _<_}
 use native.Mathlib.Omega.{arith}
 use native.Mathlib.Decide.{decLt}
 use lib.ListN.{length}
-use lib.IntN.{natAbs}
 use Rattle.std.proofs.shelf.Maps.{nth-past}
 use Rattle.std.specs.Finite.{nth}
 use Rattle.std.specs.declared.option.Option.{Option}
@@ -13,7 +12,6 @@ use Rattle.std.specs.declared.option.Option.the-variants.{Some, None}
 use Rattle.game.specs.declared.Edge.{Edge}
 use Rattle.game.specs.declared.Owner.{Owner}
 use Rattle.game.specs.Game.{Place, Game, WellFormed}
-use Rattle.game.specs.Limits.{mostAmount}
 use Rattle.game.proofs.Base.{none-some, some-inj}
 use Rattle.game.proofs.Force.{sound-at}
 use Rattle.hopper.specs.Boards.{ownerAt, movesAt, stepAt, countAt}
@@ -60,15 +58,9 @@ module _ (g : Game) (wf : WellFormed g) where
   owner-there p lt h = let w = wf .here p lt in none-some (sym h ∙ ap ownerAt (w .1))
 
   -- an owner is answered of the places alone
-  pub owner-none : (p : ℕ) → ownerAt (g .at p) ≡ None → g .places ≤ p
-  owner-none p h = elim (decLt p (g .places)) [ yes lt ↦ absurd (owner-there p lt h) | no n ↦ omega arith ]
-
   pub owner-some : (p : ℕ) (o : Owner) → ownerAt (g .at p) ≡ Some o → p < g .places
   owner-some p o h = elim (decLt p (g .places)) [ yes lt ↦ lt | no n ↦ absurd (none-some (sym (ap ownerAt (wf .gone p (omega arith))) ∙ h)) ]
 
-  -- the target of a move that is answered is a place, and its amount is within the limits
+  -- the target of a move that is answered is a place
   pub step-inside : (p m : ℕ) (e : Edge) → stepAt (g .at p) m ≡ Some e → e .target < g .places
   step-inside p m e h = let w = step-place (g .at p) m e h in sound-at g wf p (w .0) (w .1) .targets m e (w .2)
-
-  pub step-mild : (p m : ℕ) (e : Edge) → stepAt (g .at p) m ≡ Some e → natAbs (e .amount) ≤ mostAmount
-  step-mild p m e h = let w = step-place (g .at p) m e h in sound-at g wf p (w .0) (w .1) .amounts m e (w .2)

@@ -1,17 +1,16 @@
 -- The planned moves, and the runs that make them.
 use mathlib.Core.Path.{_≡_, refl, sym, ap, _∙_, subst}
-use mathlib.Core.Bool.{true, false, cond}
-use mathlib.Core.Logic.{_⊎_, inl, inr}
+use mathlib.Core.Bool.{true, cond}
+use mathlib.Core.Logic.{inl, inr}
 use mathlib.Core.List.{List, [], _∷_}
-use Prim.Native.Nat.{ℕ, zero, suc, _+_, _≤_, _<_}
+use Prim.Native.Nat.{ℕ, _+_, _≤_, _<_}
 use native.Mathlib.Omega.{arith}
 use native.Mathlib.Decide.{decLt, decLe}
 use lib.Dec.{leb, ltb}
 use lib.ListN.{length, getD}
-use Rattle.std.proofs.shelf.Tests.{true≢false, cond-false, lt-leb, le-ltb}
+use Rattle.std.proofs.shelf.Tests.{cond-false, lt-leb, le-ltb}
 use Rattle.std.specs.Finite.{nth}
-use Rattle.std.specs.declared.option.Option.{Option}
-use Rattle.std.specs.declared.option.Option.the-variants.{Some, None}
+use Rattle.std.specs.declared.option.Option.the-variants.{Some}
 use Rattle.std.specs.declared.result.Result.{Result}
 use Rattle.std.specs.declared.result.Result.the-variants.{Ok, Err}
 use Rattle.game.specs.declared.Edge.{Edge}
@@ -33,7 +32,7 @@ use Rattle.hopper.specs.Boards.{ownerAt, stepAt, countAt}
 use Rattle.hopper.specs.Faults.{fault, check}
 use Rattle.hopper.specs.Refusing.{verdict}
 use Rattle.hopper.proofs.Refusing.{first-refuses, second-decides}
-use Rattle.hopper.proofs.Boards.{step-at, step-below, step-inside, owner-some, owner-there}
+use Rattle.hopper.proofs.Boards.{step-at, step-below, step-inside, owner-some}
 use Rattle.solver.specs.Entries.{never, entries}
 use Rattle.solver.specs.Least.{Parts, GoodFrom}
 use Rattle.solver.specs.RowSteps.{Enough, Serves}
@@ -104,15 +103,6 @@ module _ (g : Game) (wf : WellFormed g) (top : ℕ) (t : Table) (keeps : Keeps t
       let enough : getD row (v .1 .target) 0 ≤ v .3 .0 = stable (decLe (getD row (v .1 .target) 0) (v .3 .0)) (λ not. good (v .1 .target) inside′ .below (v .3 .0) (omega arith) d≤ (v .3 .2)) in
       let below = step-below (g .at p) (v .0) (v .1) is in
       passed (v .0) (omega arith) (v .1) is x (omega arith) fill (v .3 .0, v .3 .1, enough)
-
--- a place that is there and not theirs is ours
-pub ours-there : (g : Game) → WellFormed g → (p : ℕ) → p < g .places → isTheirs (ownerAt (g .at p)) ≡ false → ownerAt (g .at p) ≡ Some Ours
-ours-there g wf p lt h = go (ownerAt (g .at p)) refl h
-  where
-    go : (o : Option Owner) → ownerAt (g .at p) ≡ o → isTheirs o ≡ false → o ≡ Some Ours
-    go None e k = absurd (owner-there g wf p lt e)
-    go (Some Ours) e k = refl
-    go (Some Theirs) e k = absurd (true≢false k)
 
 -- ---- what is refused before any move is looked at
 abbrev pub asked : Game → ℕ → ℕ → List Check

@@ -1,5 +1,5 @@
 -- A round, place by place.
-use mathlib.Core.Path.{_≡_, refl}
+use mathlib.Core.Path.{_≡_}
 use mathlib.Core.Bool.{Bool, true, false}
 use mathlib.Core.Logic.{inl, inr}
 use mathlib.Core.List.{List}
@@ -16,9 +16,6 @@ use Rattle.solver.specs.Entries.{never, Tells}
 use Rattle.solver.specs.Forcing.{MarkedBelow, RoundDone}
 
 module _ (g : Game) (wf : WellFormed g) (old : List ℕ) (round : ℕ) (small : round < never) (fits : (k : ℕ) → getD old k 0 ≤ never) where
-  pub round-none : RoundDone g 0 old old round false
-  round-none = record { rest = λ k h. refl; kept = λ k h l. refl; marked = λ k h e. absurd (omega arith); news = λ h. let x = h .1 in omega arith }
-
   same : (n : ℕ) (new : List ℕ) (fresh : Bool) → RoundDone g n old new round fresh → (q : ℕ) → (getD new q 0 < round → getD old q 0 < round) × (getD old q 0 < round → getD new q 0 < round)
   same n new fresh t q = elim (cases-lt q n) [ inl h ↦ below h | inr h ↦ (let e = t .rest q h in omega arith) ]
     where

@@ -10,7 +10,7 @@ use Rattle.std.specs.declared.option.Option.{Option}
 use Rattle.std.specs.declared.option.Option.the-variants.{Some, None}
 use Rattle.game.specs.Game.{Game, WellFormed}
 use Rattle.game.specs.Vessel.{Table, Keeps, unlimited}
-use Rattle.game.specs.Fill.{Step, Holds, Good, IsLeast, Row, IsRow, LeastGood}
+use Rattle.game.specs.Fill.{Step, Holds, Good, IsLeast, Row, IsRow, LeastGood, Repeats}
 use Rattle.game.specs.Published.{LowerWeakUpperBound, LowerBound}
 use Rattle.game.proofs.Base.{stable, holds-dec, good-by}
 use Rattle.game.proofs.Bounded.{least-below}
@@ -20,7 +20,7 @@ use Rattle.game.proofs.Lip.{step-through, lip-at-drop-sum-is-no-lip}
 use Rattle.game.proofs.Rows.{some-row-repeats, unique}
 use Rattle.game.proofs.Weights.{lip-is-lower-weak-upper-bound, unlimited-is-lower-bound}
 use Rattle.solver.specs.Entries.{entries, KeptFrom, Filled}
-use Rattle.solver.specs.Least.{Parts, Repeats, FirstRepeatedRow, StillChanging, HoldsLeastGood, GoodFrom, WinsLowerWeakUpperBoundFrom, HoldsLeastWithoutLip, HoldsLeastLowerBound}
+use Rattle.solver.specs.Least.{Parts, FirstRepeatedRow, StillChanging, HoldsLeastGood, GoodFrom, WinsLowerWeakUpperBoundFrom, HoldsLeastWithoutLip, HoldsLeastLowerBound}
 use Rattle.solver.specs.RowSteps.{Enough, NextRow, Copied, SameTo}
 use Rattle.solver.proofs.Entries.{entry-inj}
 use Rattle.solver.proofs.Marks.{lip-below-top}
@@ -215,8 +215,7 @@ module _ (g : Game) (wf : WellFormed g) (top : ℕ) (t : Table) (keeps : Keeps t
 
         pub first-repeated : FirstRepeatedRow g top t row row′ next next′ j
         first-repeated = record {
-          repeats = (entries row′, is-row j row′ (r .one), is-row (suc j) row′ again);
-          first = r .before;
+          rounds = ((entries row′, is-row j row′ (r .one), is-row (suc j) row′ again), r .before);
           row-held = is-row j row′ (r .one);
           next-held = is-row j next′ too;
           row-kept = row-kept;

@@ -1,12 +1,12 @@
 -- The unfolded board answers as the code does.
-use mathlib.Core.Path.{_≡_, refl, sym, ap, _∙_, subst}
+use mathlib.Core.Path.{_≡_, refl, sym, ap, _∙_}
 use mathlib.Core.Bool.{Bool, true, false, cond}
 use mathlib.Core.List.{List, [], _∷_}
 use Prim.Native.Nat.{ℕ, zero, suc, _+_, _/_, _%_, _≤_, _<_}
 use native.Mathlib.Omega.{arith}
 use lib.Arith.{digits-lt}
 use lib.Dec.{leb, ltb}
-use Rattle.std.proofs.shelf.Tests.{cond-true, cond-false, leb-true, le-leb, lt-leb, lt-ltb, le-ltb}
+use Rattle.std.proofs.shelf.Tests.{cond-true, leb-true, le-leb, lt-ltb}
 use Rattle.std.specs.Finite.{nth}
 use Rattle.std.specs.declared.option.Option.{Option}
 use Rattle.std.specs.declared.option.Option.the-variants.{Some, None}
@@ -17,7 +17,7 @@ use Rattle.game.specs.Vessel.{Table}
 use Rattle.game.specs.Forced.{cell, spill, unfoldEdge, unfoldMoves, unfoldPlace, alone, unfoldAt, onlySpill, unfolded}
 use Rattle.game.proofs.Base.{none-some}
 use Rattle.game.proofs.Unfold.{nth-in, length-unfold}
-use Rattle.hopper.specs.Boards.{ownerAt, movesAt, stepAt}
+use Rattle.hopper.specs.Boards.{movesAt, stepAt}
 use Rattle.solver.specs.Unfolding.{fillCount}
 
 below : (b : Bool) (n s : ℕ) → s < cond b n 0 → (b ≡ true) × (s < n)
@@ -54,33 +54,7 @@ module _ (g : Game) (top : ℕ) (t : Table) where
       let w = within-fills s h in
       wide-at s (w .0) ∙ cond-true (ltb s (spill g top)) (unfoldPlace g top t (s % (top + 1)) (g .at (s / (top + 1)))) (cond (leb s (spill g top)) (Some (alone s)) None) (lt-ltb s (spill g top) (w .1))
 
-  pub at-spill : (s : ℕ) → s ≡ fillCount g top → unfolded g top t .at s ≡ Some (alone s)
-  at-spill s e = go (leb (spill g top) mostFills) e
-    where
-      go : (b : Bool) → s ≡ cond b (spill g top) 0 → (cond {A = Game} b (record { places = spill g top + 1; at = unfoldAt g top t }) (record { places = 1; at = onlySpill })) .at s ≡ Some (alone s)
-      go true k =
-          cond-false (ltb s (spill g top)) (unfoldPlace g top t (s % (top + 1)) (g .at (s / (top + 1)))) (cond (leb s (spill g top)) (Some (alone s)) None) (le-ltb s (spill g top) (omega arith))
-          ∙ cond-true (leb s (spill g top)) (Some (alone s)) None (le-leb s (spill g top) (omega arith))
-      go false k = subst (λ (z : ℕ). onlySpill z ≡ Some (alone z)) (sym k) refl
-
-  pub at-past : (s : ℕ) → fillCount g top < s → unfolded g top t .at s ≡ None
-  at-past s e = go (leb (spill g top) mostFills) s e
-    where
-      nothing : (s : ℕ) → 0 < s → onlySpill s ≡ None
-      nothing zero h = absurd (omega arith)
-      nothing (suc s) h = refl
-
-      go : (b : Bool) (s : ℕ) → cond b (spill g top) 0 < s → (cond {A = Game} b (record { places = spill g top + 1; at = unfoldAt g top t }) (record { places = 1; at = onlySpill })) .at s ≡ None
-      go true s k =
-          cond-false (ltb s (spill g top)) (unfoldPlace g top t (s % (top + 1)) (g .at (s / (top + 1)))) (cond (leb s (spill g top)) (Some (alone s)) None) (le-ltb s (spill g top) (omega arith))
-          ∙ cond-false (leb s (spill g top)) (Some (alone s)) None (lt-leb s (spill g top) k)
-      go false s k = nothing s k
-
   -- what is answered of a place at a level
-  owner-same : (c : ℕ) (o : Option Place) → ownerAt o ≡ ownerAt (unfoldPlace g top t c o)
-  owner-same c None = refl
-  owner-same c (Some q) = refl
-
   moves-same : (c : ℕ) (o : Option Place) → movesAt o ≡ movesAt (unfoldPlace g top t c o)
   moves-same c None = refl
   moves-same c (Some q) = ap Some (sym (length-unfold g top t c (q .moves)))
@@ -97,9 +71,6 @@ module _ (g : Game) (top : ℕ) (t : Table) where
   step-gone : (c : ℕ) (o : Option Place) (m : ℕ) → stepAt o m ≡ None → stepAt (unfoldPlace g top t c o) m ≡ None
   step-gone c None m h = refl
   step-gone c (Some q) m h = nth-none c (q .moves) m h
-
-  pub owner-fill : (s : ℕ) → s < fillCount g top → ownerAt (g .at (s / (top + 1))) ≡ ownerAt (unfolded g top t .at s)
-  owner-fill s h = owner-same (s % (top + 1)) (g .at (s / (top + 1))) ∙ ap ownerAt (sym (at-fill s h))
 
   pub moves-fill : (s : ℕ) → s < fillCount g top → movesAt (g .at (s / (top + 1))) ≡ movesAt (unfolded g top t .at s)
   moves-fill s h = moves-same (s % (top + 1)) (g .at (s / (top + 1))) ∙ ap movesAt (sym (at-fill s h))

@@ -10,7 +10,7 @@ use Rattle.std.specs.declared.result.Result.{Result}
 use Rattle.std.specs.declared.result.Result.the-variants.{Ok, Err}
 use Rattle.game.specs.Game.{Game, dropSum}
 use Rattle.game.specs.Vessel.{Table, lip, unlimited}
-use Rattle.game.specs.Fill.{Good, IsLeast, Row, IsRow, LeastGood}
+use Rattle.game.specs.Fill.{Good, IsLeast, IsRow, LeastGood, Repeats, FirstRepeat}
 use Rattle.game.specs.Published.{LowerWeakUpperBound, LowerBound}
 use Rattle.hopper.specs.declared.Check.{Check}
 use Rattle.hopper.specs.declared.Fault.{Fault}
@@ -29,14 +29,9 @@ abbrev pub leastChecks : Game → ℕ → ℕ → ℕ → Bool → List Check
 leastChecks g room spare budget changing =
     check (tooShort g room spare) RowTooShort Rest (g .places) ∷ check changing RowsKeepChanging Rest budget ∷ []
 
--- row j is row j + 1 too
-abbrev pub Repeats : Game → ℕ → Table → ℕ → Type 0
-Repeats g top t j = (row : Row) × IsRow g t top j row × IsRow g t top (suc j) row
-
 -- j is the first row that repeats, both buffers hold it, and the rest of them is as it was
 pub record FirstRepeatedRow (g : Game) (top : ℕ) (t : Table) (row row′ next next′ : List ℕ) (j : ℕ) : Type 0 where
-  pub repeats : Repeats g top t j
-  pub first : (i : ℕ) → i < j → ¬ Repeats g top t i
+  pub rounds : FirstRepeat g top t j
   pub row-held : IsRow g t top j (entries row′)
   pub next-held : IsRow g t top j (entries next′)
   pub row-kept : KeptFrom (g .places) row row′

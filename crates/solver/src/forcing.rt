@@ -83,7 +83,7 @@ fn mark_round<B: Board>(board: &B, marks: &mut [u32], round: u32) -> bool
     fresh
 }
 
-// Marks each place with the fewest moves in which the other side can force the run into the target, and answers the largest such number.
+// Finds, place by place, how few moves the other side needs to bring the run to the target, and answers the largest of these numbers.
 pub fn forced<B: Board>(board: &B, target: u32, marks: &mut [u32]) -> Result<u32, Fault>
     ensures { λ r. ⌜ ForcedAnswers (B·Board .game (now (board .entry))) target (now (marks .entry)) (now (marks .exit)) r ⌝ }
 {

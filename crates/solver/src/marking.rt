@@ -1,5 +1,4 @@
 // How long each fill holds.
-ghost use mathlib.Core.Path.{_≡_};
 ghost use Rattle.hopper.specs.Accepting.{Accepted};
 ghost use Rattle.solver.specs.Marking.{MarkAnswers, TellsFates, NeverIsGood, BadIsForcedWithin, OneAboveTop, EachFillHasFate, NeverWinsLowerWeakUpperBound, NeverWinsIntervalBound};
 use super::forcing::forced;
@@ -14,8 +13,8 @@ use hopper::Vessel;
 use hopper::limits::MOST_FILLS;
 use hopper::pass;
 
-// Marks each fill with the fewest moves in which the other side can make the vessel refuse one, and answers the largest such number.
-// On the unfolded board that is to force the run into the spill.
+// Finds, fill by fill, within how many moves the other side can bring about a refusal, and answers the largest of these numbers.
+// On the unfolded board a refusal is a run that comes to the spill.
 pub fn mark<'x, B: Board, V: Vessel>(
     board: &'x B,
     vessel: &'x V,

@@ -1,5 +1,4 @@
 // The least fills that hold, row by row.
-ghost use mathlib.Core.Path.{_≡_};
 ghost use mathlib.Core.Bool.{not};
 ghost use Prim.Native.Nat.{_<_, _≤_};
 ghost use lib.ListN.{length};
@@ -113,7 +112,7 @@ fn differ(row: &[u32], next: &[u32], count: u32) -> bool
 }
 
 // Fills both buffers with the first row that is the next one too, which is that of the least good fills, and answers its number.
-// Row j has for each place the lowest fill that holds for j moves.
+// Row j is made of the lowest fills that last j moves.
 pub fn least<B: Board, V: Graded>(
     board: &B,
     vessel: &V,

@@ -1,24 +1,20 @@
 use borrow.Author.Needs.{needs}
 use native.Mathlib.Omega.{arith}
-use mathlib.Core.Path.{_≡_, sym, _∙_, ap}
-use mathlib.Core.Bool.{false}
-use Prim.Native.Nat.{ℕ, _≤_, _<_}
+use mathlib.Core.Path.{_≡_}
+use Prim.Native.Nat.{_≤_, _<_}
 use lib.ListN.{length, getD}
 use mir.Syntax.{w32}
 use mir.Val.{SFits}
 use Rattle.std.proofs.shelf.Signed.{toZ-ofZ}
-use Rattle.std.specs.declared.option.Option.the-variants.{Some}
 use Rattle.std.specs.declared.result.Result.the-variants.{Ok, Err}
-use Rattle.game.specs.declared.Owner.the-variants.{Ours}
-use Rattle.hopper.specs.Boards.{ownerAt, countAt}
+use Rattle.hopper.specs.Boards.{countAt}
 use Rattle.hopper.specs.Refusing.{verdict}
 use Rattle.hopper.proofs.Boards.{step-below}
-use Rattle.solver.specs.Entries.{never, entries}
+use Rattle.solver.specs.Entries.{never}
 use Rattle.solver.specs.Least.{Parts}
 use Rattle.solver.specs.RowSteps.{Serves}
-use Rattle.solver.specs.Planning.{isTheirs, NeedsNoMore}
 use Rattle.solver.proofs.Entries.{entry-back}
-use Rattle.solver.proofs.Following.{asked, Passed, passed-not, passed-further, needs-no-more, always-served, ours-there, refused-answer, refused-served, unserved-answer, planned-runs-are-poured}
+use Rattle.solver.proofs.Following.{asked, passed-not, passed-further, needs-no-more, always-served, refused-answer, refused-served, unserved-answer, planned-runs-are-poured}
 use Rattle.solver.proofs.planning.plan.Needs as need
 
 pub returns-in-Break-pass : need.returns-in-Break-pass
