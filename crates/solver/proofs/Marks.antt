@@ -1,7 +1,7 @@
 -- The forced marks of the unfolded board are the marks of the fills, and those tell their fates.
 use mathlib.Core.Path.{_≡_, refl, sym, ap, _∙_, subst}
 use mathlib.Core.Bool.{cond}
-use mathlib.Core.Logic.{_↔_}
+use mathlib.Core.Logic.{inl, inr, _↔_}
 use mathlib.Core.List.{List}
 use Prim.Native.Nat.{ℕ, zero, suc, _+_, _≤_, _<_}
 use native.Mathlib.Omega.{arith}
@@ -36,7 +36,7 @@ use Rattle.hopper.specs.Faults.{fault}
 use Rattle.hopper.specs.Refusing.{verdict}
 use Rattle.solver.specs.Entries.{never, asEntry, entries}
 use Rattle.solver.specs.Forcing.{forcedChecks, ForcedMarks, ForcedAnswers}
-use Rattle.solver.specs.Marking.{markChecks, FillMarks, MarkAnswers, TellsFates, NeverIsGood, BadIsForcedWithin, OneAboveTop, EachFillHasFate, NeverWinsLowerWeakUpperBound, NeverWinsIntervalBound}
+use Rattle.solver.specs.Marking.{markChecks, FillMarks, MarkAnswers, TellsFates, NeverIsGood, NeverOrWithin, BadIsForcedWithin, OneAboveTop, EachFillHasFate, NeverWinsLowerWeakUpperBound, NeverWinsIntervalBound}
 use Rattle.solver.proofs.Entries.{entry-back, entry-number}
 use Rattle.solver.proofs.Unfolds.{places-are, small-spill, number-of}
 
@@ -130,6 +130,13 @@ module _ (g : Game) (wf : WellFormed g) (top : ℕ) (t : Table) (keeps : Keeps t
     pub never-is-good : (r : Result ℕ Fault) → MarkAnswers g top t old new r → Accepted (λ _. NeverIsGood g top t new) r
     never-is-good (Ok rounds) a = never-good rounds (a .1)
     never-is-good (Err e) a = tt
+
+    pub never-or-within : (r : Result ℕ Fault) → MarkAnswers g top t old new r → Accepted (NeverOrWithin g top new) r
+    never-or-within (Ok rounds) a = λ p c lt le.
+        let n = getD new (cell top p c) 0 in
+        let below = number-of g top t p c lt le in
+        elim (ℕ-discrete n never) [ yes e ↦ inl e | no other ↦ inr (a .1 .largest .most (cell top p c) n (omega arith) (entry-number n other)) ]
+    never-or-within (Err e) a = tt
 
     pub bad-is-forced-within : (r : Result ℕ Fault) → MarkAnswers g top t old new r → Accepted (BadIsForcedWithin g top t) r
     bad-is-forced-within (Ok rounds) a = λ p c lt bad. elim (decLe c top) [

@@ -1,6 +1,6 @@
 -- What `mark` answers, and what its marks tell.
 use mathlib.Core.Path.{_≡_}
-use mathlib.Core.Logic.{_↔_}
+use mathlib.Core.Logic.{_⊎_, _↔_}
 use mathlib.Core.List.{List, [], _∷_}
 use Prim.Native.Nat.{ℕ, _+_, _≤_, _<_}
 use lib.Dec.{ltb}
@@ -47,6 +47,11 @@ TellsFates g top t marks = (p c : ℕ) → p < g .places → c ≤ top → Fate 
 -- an entry is never just where its fill is good
 abbrev pub NeverIsGood : Game → ℕ → Table → List ℕ → Type 0
 NeverIsGood g top t marks = (p c : ℕ) → p < g .places → c ≤ top → (getD marks (cell top p c) 0 ≡ never) ↔ Good g t p c
+
+-- each fill up to the top is marked never, or with a number that is at most the rounds
+abbrev pub NeverOrWithin : Game → ℕ → List ℕ → ℕ → Type 0
+NeverOrWithin g top marks rounds =
+    (p c : ℕ) → p < g .places → c ≤ top → (getD marks (cell top p c) 0 ≡ never) ⊎ (getD marks (cell top p c) 0 ≤ rounds)
 
 -- from each bad fill one reply beats every plan within its mark, which up to the top is at most the rounds
 abbrev pub BadIsForcedWithin : Game → ℕ → Table → ℕ → Type 0

@@ -1,6 +1,6 @@
 // How long each fill holds.
 ghost use Rattle.hopper.specs.Accepting.{Accepted};
-ghost use Rattle.solver.specs.Marking.{MarkAnswers, TellsFates, NeverIsGood, BadIsForcedWithin, OneAboveTop, EachFillHasFate, NeverWinsLowerWeakUpperBound, NeverWinsIntervalBound};
+ghost use Rattle.solver.specs.Marking.{MarkAnswers, TellsFates, NeverIsGood, NeverOrWithin, BadIsForcedWithin, OneAboveTop, EachFillHasFate, NeverWinsLowerWeakUpperBound, NeverWinsIntervalBound};
 use super::forcing::forced;
 use super::unfolded::Unfolded;
 use super::unfolded::UnfoldedBoard;
@@ -23,6 +23,7 @@ pub fn mark<'x, B: Board, V: Vessel>(
     ensures answer { λ r. ⌜ MarkAnswers (B·Board .game (now (board .entry))) (V·Vessel .top (now (vessel .entry))) (V·Vessel .table (now (vessel .entry))) (now (marks .entry)) (now (marks .exit)) r ⌝ }
     ensures fates { λ r. ⌜ Accepted (λ _. TellsFates (B·Board .game (now (board .entry))) (V·Vessel .top (now (vessel .entry))) (V·Vessel .table (now (vessel .entry))) (now (marks .exit))) r ⌝ }
     ensures good { λ r. ⌜ Accepted (λ _. NeverIsGood (B·Board .game (now (board .entry))) (V·Vessel .top (now (vessel .entry))) (V·Vessel .table (now (vessel .entry))) (now (marks .exit))) r ⌝ }
+    ensures bounded { λ r. ⌜ Accepted (NeverOrWithin (B·Board .game (now (board .entry))) (V·Vessel .top (now (vessel .entry))) (now (marks .exit))) r ⌝ }
     ensures bad { λ r. ⌜ Accepted (BadIsForcedWithin (B·Board .game (now (board .entry))) (V·Vessel .top (now (vessel .entry))) (V·Vessel .table (now (vessel .entry)))) r ⌝ }
     ensures lip { λ r. ⌜ Accepted (λ _. NeverWinsLowerWeakUpperBound (B·Board .game (now (board .entry))) (V·Vessel .top (now (vessel .entry))) (V·Vessel .table (now (vessel .entry))) (now (marks .exit))) r ⌝ }
     ensures closed { λ r. ⌜ Accepted (λ _. NeverWinsIntervalBound (B·Board .game (now (board .entry))) (V·Vessel .top (now (vessel .entry))) (V·Vessel .table (now (vessel .entry))) (now (marks .exit))) r ⌝ }

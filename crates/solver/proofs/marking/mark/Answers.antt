@@ -4,7 +4,7 @@ use Rattle.game.specs.Limits.{mostFills}
 use Rattle.game.specs.Forced.{spill, unfolded}
 use Rattle.solver.specs.Forcing.{ForcedAnswers}
 use Rattle.solver.specs.Marking.{MarkAnswers}
-use Rattle.solver.proofs.Marks.{mark-answers, tells-fates, never-is-good, bad-is-forced-within, never-wins-lower-weak-upper-bound, never-wins-interval-bound, one-above-top, each-fill-has-fate, of-accepted}
+use Rattle.solver.proofs.Marks.{mark-answers, tells-fates, never-is-good, never-or-within, bad-is-forced-within, never-wins-lower-weak-upper-bound, never-wins-interval-bound, one-above-top, each-fill-has-fate, of-accepted}
 use Rattle.solver.proofs.marking.mark.Needs as need
 
 pub returns : need.returns
@@ -26,6 +26,7 @@ returns g c =
       answer = answer;
       fates = tells-fates game formed top t keeps old new r answer;
       good = never-is-good game formed top t keeps old new r answer;
+      bounded = never-or-within game formed top t keeps old new r answer;
       bad = bad-is-forced-within game formed top t keeps old new r answer;
       lip = never-wins-lower-weak-upper-bound game formed top t keeps old new r answer;
       closed = never-wins-interval-bound game formed top t keeps old new r answer;
