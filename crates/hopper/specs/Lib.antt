@@ -4,3 +4,4 @@ pub mod Accepting
 pub mod Texts
 pub mod Boards
 pub mod Making
+pub mod Any

@@ -8,6 +8,7 @@ ghost use Rattle.hopper.specs.Texts.{refusedText};
 ghost use Rattle.std.specs.declared.option.Option.the-variants.{Some};
 use std::fmt;
 
+pub mod any;
 pub mod board;
 pub mod closed;
 pub mod drawn;
@@ -16,6 +17,7 @@ pub mod lip;
 mod pouring;
 pub mod vessel;
 
+pub use any::AnyVessel;
 pub use board::Board;
 pub use closed::Closed;
 pub use drawn::Drawn;

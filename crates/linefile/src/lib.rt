@@ -7,6 +7,7 @@ ghost use Rattle.lineformat.specs.Checks.{accepts, trailerChecks};
 use lineformat::MoveRecord;
 use lineformat::PlaceRecord;
 
+pub mod board;
 mod bytes;
 pub mod printing;
 mod reading;

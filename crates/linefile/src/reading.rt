@@ -217,7 +217,7 @@ impl<'a> FileLine<'a> {
     }
 
     // What an accepted file holds is well formed.
-    fn formed(&self)
+    pub(crate) fn formed(&self)
         ensures { λ _. ⌜ WellFormedLine (held (now (self .entry))) ⌝ }
     {
         let _n = self.bytes.len();

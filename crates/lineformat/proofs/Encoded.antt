@@ -18,6 +18,7 @@ use Rattle.std.specs.declared.option.Option.the-variants.{Some, None}
 use Rattle.std.proofs.shelf.Lists.{append-assoc, length-append, getD-append-left, getD-append-right, getD-append-add, take-at}
 use Rattle.std.proofs.shelf.Signed.{toZ-ofZ, ints}
 use Rattle.std.proofs.shelf.Counted.{fill-by-all}
+use Rattle.game.proofs.Sums.{sum-const}
 use Rattle.hopper.specs.Refusing.{passes}
 use Rattle.hopper.proofs.Refusing.{pass-both}
 use Rattle.lineformat.specs.declared.MoveRecord.{MoveRecord}
@@ -26,7 +27,7 @@ use Rattle.lineformat.specs.Limits.{mostPlaces, mostMoves, trailerSize}
 use Rattle.lineformat.specs.Format.{Line, numbersOf, inTwo, inFour, twoAt, fourAt, moveBytes, placeBytes, trailerBytes, moveAt, placeAt, recordsAt, placeOf, moveOf, noMove, noPlace, encode, lineOf, trailer, numbersIn, versionIn, distanceIn, placesIn, movesIn, placesFrom, movesFrom}
 use Rattle.lineformat.specs.WellFormed.{WellFormedLine}
 use Rattle.lineformat.specs.Checks.{trailerChecks, recordChecks, readChecks, accepts}
-use Rattle.lineformat.proofs.Scan.{sum-most, sum-part}
+use Rattle.lineformat.proofs.Scan.{sum-part}
 use Rattle.lineformat.proofs.Tables.{length-joined}
 use Rattle.lineformat.proofs.Sound.{SoundTrailer, trailer-passes, records-pass}
 use Rattle.lineformat.proofs.Tests.{draw-small}
@@ -248,7 +249,7 @@ spelt-encode l w =
 -- all names together
 pub names-few : (l : Line) → WellFormedLine l → length (l .names) ≤ 8192
 names-few l w =
-    let a = sum-most (λ p. placeOf l p .letters) (length (l .places)) 32 (λ i h. w .each-place i h .named) in
+    let a = sum-const (length (l .places)) 32 (λ p. placeOf l p .letters) (λ i h. w .each-place i h .named) in
     let b = w .all-names in
     let c = w .numbers .few-places in
     omega arith

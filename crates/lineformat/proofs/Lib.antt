@@ -6,3 +6,4 @@ pub mod Sound
 pub mod Decoded
 pub mod Encoded
 pub mod Laws
+pub mod Formed

@@ -3,13 +3,13 @@ use mathlib.Core.Path.{_≡_, refl, ap, sym, _∙_}
 use mathlib.Core.Bool.{Bool, true, false, cond}
 use Prim.Native.Nat.{ℕ, zero, suc, _+_, _-_, _*_, _<_, _≤_}
 use mathlib.Core.Logic.{⊎-elim}
-use native.Mathlib.Nat.{suc-mul, not-suc-le-zero, le-of-suc-le-suc}
+use native.Mathlib.Nat.{not-suc-le-zero, le-of-suc-le-suc}
 use native.Mathlib.Omega.{arith}
 use Rattle.std.specs.Options.{isSome}
 use Rattle.std.specs.declared.option.Option.{Option}
 use Rattle.std.specs.declared.option.Option.the-variants.{Some, None}
 use Rattle.std.proofs.shelf.Tests.{cases-lt, cond-true, cond-false, true≢false}
-use Rattle.lineformat.specs.WellFormed.{sumBelow}
+use Rattle.game.specs.Game.{sumBelow}
 use Rattle.lineformat.specs.Checks.{firstFrom}
 
 pub scan-on : (bad : ℕ → Bool) (i n : ℕ) → i < n → bad i ≡ false → firstFrom bad i (n - i) ≡ firstFrom bad (i + 1) (n - (i + 1))
@@ -52,14 +52,6 @@ none-found bad n h = no-first bad 0 n (λ k l. ap bad (let z : 0 + k ≡ k = ome
 -- sums
 pub sum-more : (f : ℕ → ℕ) (n : ℕ) → sumBelow (n + 1) f ≡ sumBelow n f + f n
 sum-more f n = ap (λ k. sumBelow k f) (let z : n + 1 ≡ suc n = omega arith in z)
-
-pub sum-most : (f : ℕ → ℕ) (n k : ℕ) → ((i : ℕ) → i < n → f i ≤ k) → sumBelow n f ≤ n * k
-sum-most f zero k h = omega arith
-sum-most f (suc n) k h =
-    let a : f n ≤ k = h n (omega arith) in
-    let b : sumBelow n f ≤ n * k = sum-most f n k (λ i l. h i (omega arith)) in
-    let c : suc n * k ≡ n * k + k = suc-mul n k in
-    omega arith
 
 -- each part is no more than the whole
 pub sum-part : (f : ℕ → ℕ) (n k : ℕ) → k < n → f k ≤ sumBelow n f

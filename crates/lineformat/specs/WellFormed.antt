@@ -2,22 +2,18 @@
 use mathlib.Core.Path.{_≡_}
 use mathlib.Core.Bool.{cond}
 use mathlib.Core.List.{List}
-use Prim.Native.Nat.{ℕ, zero, suc, _+_, _≤_, _<_}
+use Prim.Native.Nat.{ℕ, _≤_, _<_}
 use lib.Dec.{ltb}
 use lib.ListN.{length, getD, take, drop}
 use lib.IntN.{natAbs}
 use Rattle.std.specs.declared.option.Option.{Option}
 use Rattle.std.specs.declared.option.Option.the-variants.{Some, None}
+use Rattle.game.specs.Game.{sumBelow}
 use Rattle.lineformat.specs.declared.MoveRecord.{MoveRecord}
 use Rattle.lineformat.specs.declared.Numbers.{Numbers}
 use Rattle.lineformat.specs.declared.PlaceRecord.{PlaceRecord}
 use Rattle.lineformat.specs.Limits.{lastKind, drawnKind, lastOwner, mostPlaces, mostMoves, mostAmount, mostTop, mostDraw, longestName, firstLetter, lastLetter}
 use Rattle.lineformat.specs.Format.{Line, numbersOf, placeOf, moveOf}
-
--- f 0 + .. + f (n - 1)
-abbrev pub sumBelow : ℕ → (ℕ → ℕ) → ℕ
-sumBelow zero f = 0
-sumBelow (suc n) f = sumBelow n f + f n
 
 -- how many moves and how many bytes of names the first p places have
 abbrev pub movesBefore : Line → ℕ → ℕ
