@@ -16,7 +16,8 @@ use Rattle.game.specs.Theorems.{VesselsKeepRules}
 use Rattle.game.proofs.Base.{none-some}
 use Rattle.game.proofs.Pour.{some-of, upTo-inv, upTo-make, upTo-above, natural-inv, capped-inv, refusedPast-inv, lip-inv, lip-make}
 
-keeps-upTo : (top : ℕ) (t : Table) → top ≤ mostTop → ((c : ℕ) (a : ℤ) (d : ℕ) → t c a ≡ Some d → d ≤ top) → Keeps top (upTo top t)
+-- a table cut at the top keeps the rules where it answers no level above the top
+pub keeps-upTo : (top : ℕ) (t : Table) → top ≤ mostTop → ((c : ℕ) (a : ℤ) (d : ℕ) → t c a ≡ Some d → d ≤ top) → Keeps top (upTo top t)
 keeps-upTo top t fits small =
     record {
       top-fits = fits;
