@@ -1,0 +1,2 @@
+pub mod Beliefs
+pub mod Worked
