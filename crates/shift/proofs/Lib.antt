@@ -1,0 +1,4 @@
+pub mod Search
+pub mod Ordered
+pub mod Served
+pub mod WholeFate
