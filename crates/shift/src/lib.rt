@@ -5,9 +5,9 @@ use hopper::Fault;
 mod checks;
 mod fate;
 mod good;
+mod moving;
 mod opening;
 mod ordering;
-mod reporting;
 
 // A shift: the number that its opener chose, the place and the level where it stands, and the move of its open order.
 #[derive(Drop)]
@@ -60,20 +60,6 @@ impl Shift {
 }
 
 impl Order {
-    // The number of the shift that gave it out.
-    pub fn shift(&self) -> u32
-        ensures { λ r. ⌜ r ≡ now (self .entry) .shift ⌝ }
-    {
-        self.shift
-    }
-
-    // The place whose move it is.
-    pub fn place(&self) -> u32
-        ensures { λ r. ⌜ r ≡ now (self .entry) .place ⌝ }
-    {
-        self.place
-    }
-
     // The move's number.
     pub fn mv(&self) -> u32
         ensures { λ r. ⌜ r ≡ now (self .entry) .mv ⌝ }

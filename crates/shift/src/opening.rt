@@ -74,15 +74,13 @@ impl Shift {
         ensures fate { λ _. ⌜ StartingFillTellsTheWholeFate ⌝ }
     {
         starting_fill_tells_the_whole_fate();
-        match check_open(board, vessel, marks, place, fill) {
-            Err(fault) => Err(fault),
-            Ok(()) => Ok(Shift {
-                number,
-                place,
-                level: fill,
-                opened: None,
-            }),
-        }
+        check_open(board, vessel, marks, place, fill)?;
+        Ok(Shift {
+            number,
+            place,
+            level: fill,
+            opened: None,
+        })
     }
 
     // Ends the shift, where no order is open, and answers its place and level.

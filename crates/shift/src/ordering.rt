@@ -1,11 +1,12 @@
-// Orders: the first good move.
+// Orders: given out for the first good move, and withdrawn.
 ghost use mathlib.Core.Path.{_≡_};
 ghost use Rattle.std.specs.declared.option.Option.the-variants.{Some};
 ghost use Rattle.hopper.specs.Refusing.{Answers};
 ghost use Rattle.shift.specs.Good.{firstGood};
 ghost use Rattle.shift.specs.Checks.{orderChecks};
-ghost use Rattle.shift.specs.Answers.{OrderAnswers};
+ghost use Rattle.shift.specs.Answers.{OrderAnswers, WithdrawnAnswers};
 use super::Order;
+use super::Returned;
 use super::Shift;
 use super::checks::marks_too_short;
 use super::good::pours_good;
@@ -15,6 +16,17 @@ use hopper::Layer;
 use hopper::Refusal;
 use hopper::Vessel;
 use hopper::pass;
+
+impl Order {
+    // Spends the order.
+    pub(crate) fn spend(self) {
+        let Order {
+            shift: _,
+            place: _,
+            mv: _,
+        } = self;
+    }
+}
 
 impl Shift {
     // The number of the first move that the vessel pours to a good level, where an order can be given out.
@@ -60,15 +72,25 @@ impl Shift {
     ) -> Result<Order, Fault>
         ensures { λ r. ⌜ OrderAnswers (B·Board .game (now (board .entry))) (V·Vessel .top (now (vessel .entry))) (V·Vessel .table (now (vessel .entry))) (now (marks .entry)) (now (self .entry)) (now (self .exit)) r ⌝ }
     {
-        match self.first_good(board, vessel, marks) {
-            Err(fault) => Err(fault),
-            Ok(mv) => {
-                self.opened = Some(mv);
-                Ok(Order {
-                    shift: self.number,
-                    place: self.place,
-                    mv,
-                })
+        let mv = self.first_good(board, vessel, marks)?;
+        self.opened = Some(mv);
+        Ok(Order {
+            shift: self.number,
+            place: self.place,
+            mv,
+        })
+    }
+
+    // Takes the open order back, and stays at place and level.
+    pub fn withdrawn(&mut self, order: Order) -> Result<(), Returned>
+        ensures { λ r. ⌜ WithdrawnAnswers order (now (self .entry)) (now (self .exit)) r ⌝ }
+    {
+        match pass(&[self.not_the_open_order(&order)]) {
+            Err(fault) => Err(Returned { fault, order }),
+            Ok(()) => {
+                self.opened = None;
+                order.spend();
+                Ok(())
             }
         }
     }

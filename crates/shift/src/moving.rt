@@ -1,9 +1,9 @@
-// Reports: an order done or withdrawn, and the moves of the other side.
+// Moves: an order reported done, and the moves of the other side.
 ghost use mathlib.Core.Path.{_≡_};
 ghost use Rattle.hopper.specs.Boards.{stepAt};
 ghost use Rattle.hopper.specs.Refusing.{verdict};
 ghost use Rattle.shift.specs.Checks.{doneChecks, arrivedChecks};
-ghost use Rattle.shift.specs.Answers.{moved, DoneAnswers, WithdrawnAnswers, ArrivedAnswers};
+ghost use Rattle.shift.specs.Answers.{moved, DoneAnswers, ArrivedAnswers};
 use super::Order;
 use super::Returned;
 use super::Shift;
@@ -11,17 +11,6 @@ use hopper::Board;
 use hopper::Fault;
 use hopper::Vessel;
 use hopper::pass;
-
-impl Order {
-    // Spends the order.
-    fn spend(self) {
-        let Order {
-            shift: _,
-            place: _,
-            mv: _,
-        } = self;
-    }
-}
 
 impl Shift {
     // Checks whether the order can be reported done.
@@ -96,20 +85,6 @@ impl Shift {
         }
     }
 
-    // Takes the open order back, and stays at place and level.
-    pub fn withdrawn(&mut self, order: Order) -> Result<(), Returned>
-        ensures { λ r. ⌜ WithdrawnAnswers order (now (self .entry)) (now (self .exit)) r ⌝ }
-    {
-        match pass(&[self.not_the_open_order(&order)]) {
-            Err(fault) => Err(Returned { fault, order }),
-            Ok(()) => {
-                self.opened = None;
-                order.spend();
-                Ok(())
-            }
-        }
-    }
-
     // Reports a move of the other side: it is poured, and the shift goes on to its target.
     pub fn arrived<B: Board, V: Vessel>(
         &mut self,
@@ -119,12 +94,8 @@ impl Shift {
     ) -> Result<(), Fault>
         ensures { λ r. ⌜ ArrivedAnswers (B·Board .game (now (board .entry))) (V·Vessel .top (now (vessel .entry))) (V·Vessel .table (now (vessel .entry))) mv (now (self .entry)) (now (self .exit)) r ⌝ }
     {
-        match self.check_arrived(board, vessel, mv) {
-            Err(fault) => Err(fault),
-            Ok(()) => {
-                self.go_on(board, vessel, mv);
-                Ok(())
-            }
-        }
+        self.check_arrived(board, vessel, mv)?;
+        self.go_on(board, vessel, mv);
+        Ok(())
     }
 }
