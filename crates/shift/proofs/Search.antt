@@ -1,6 +1,6 @@
 -- The search for the first move that passes a test, one turn at a time.
 use mathlib.Core.Path.{_≡_, refl, sym, _∙_, ap, subst}
-use mathlib.Core.Bool.{Bool, true, false, cond}
+use mathlib.Core.Bool.{Bool, true, false, not, cond}
 use mathlib.Core.List.{List, [], _∷_}
 use mathlib.Core.Logic.{inl, inr}
 use Prim.Native.Nat.{ℕ, zero, suc, _+_, _≤_, _<_}
@@ -8,8 +8,9 @@ use native.Mathlib.Omega.{arith}
 use lib.ListN.{length, drop, getD}
 use Rattle.std.proofs.shelf.Lists.{at-drop-more, at-drop-all}
 use Rattle.std.proofs.shelf.Maps.{nth-getD}
-use Rattle.std.proofs.shelf.Tests.{cases-lt, cond-true, cond-false}
+use Rattle.std.proofs.shelf.Tests.{true≢false, false≢true, cases-lt, cond-true, cond-false}
 use Rattle.std.specs.Finite.{nth}
+use Rattle.std.specs.Options.{isSome}
 use Rattle.std.specs.declared.option.Option.{Option}
 use Rattle.std.specs.declared.option.Option.the-variants.{Some, None}
 use Rattle.game.specs.declared.Edge.{Edge}
@@ -18,6 +19,15 @@ use Rattle.game.proofs.Base.{none-some, some-inj}
 use Rattle.hopper.specs.Boards.{stepAt}
 use Rattle.hopper.proofs.Boards.{nth-below, nth-there}
 use Rattle.shift.specs.Good.{firstFrom, movesOf}
+
+-- a test whether nothing is there
+pub none-there : {A : Type 0} (o : Option A) → not (isSome o) ≡ true → o ≡ None
+none-there None is = refl
+none-there (Some x) is = absurd (false≢true is)
+
+pub some-there : {A : Type 0} (o : Option A) → not (isSome o) ≡ false → (x : A) × (o ≡ Some x)
+some-there None is = absurd (true≢false is)
+some-there (Some x) is = (x, refl)
 
 -- a board's answer is one of the moves
 pub step-is : (at : Option Place) (m : ℕ) → stepAt at m ≡ nth (movesOf at) m

@@ -42,7 +42,7 @@ use Rattle.shift.specs.Checks.{isOurs, names, pouredTo, orderChecks, doneCheck
 use Rattle.shift.specs.Answers.{withOrder, movedTo, moved, orderFor, OrderAnswers, DoneAnswers, WithdrawnAnswers, ArrivedAnswers}
 use Rattle.shift.specs.History.{Event, Ordered, Done, Withdrawn, Arrived, refusedWith, moveMade, movesMade, Happens, History}
 use Rattle.shift.specs.Fate.{Harmless, Served}
-use Rattle.shift.proofs.Search.{step-is, none-passes, first-passes}
+use Rattle.shift.proofs.Search.{step-is, none-there, some-there, none-passes, first-passes}
 
 -- ---- tables whose refusals are harmless
 -- each check is harmless, or cannot fail where those before it have passed
@@ -61,14 +61,6 @@ safe-refusal (c ∷ cs) safe f is = by (c .fails) refl is (λ left. safe-refusal
 -- any other refusal is harmless
 mild : (f : Fault) → ¬ (refusalNumber (f .refusal) ≡ 33) → ¬ (refusalNumber (f .refusal) ≡ 31) → Harmless f
 mild f no-33 no-31 = record { not-refused-by-vessel = λ is. no-33 (ap refusalNumber is); not-without-good-move = λ is. no-31 (ap refusalNumber is) }
-
-none-there : {A : Type 0} (o : Option A) → not (isSome o) ≡ true → o ≡ None
-none-there None is = refl
-none-there (Some x) is = absurd (false≢true is)
-
-some-there : {A : Type 0} (o : Option A) → not (isSome o) ≡ false → (x : A) × (o ≡ Some x)
-some-there None is = absurd (true≢false is)
-some-there (Some x) is = (x, refl)
 
 ours-left : (o : Owner) → isTheirs (Some o) ≡ false → o ≡ Ours
 ours-left Ours is = refl

@@ -37,6 +37,7 @@ use Rattle.shift.specs.Checks.{openChecks}
 use Rattle.shift.specs.Answers.{OpenAnswers}
 use Rattle.shift.specs.History.{Event, History}
 use Rattle.shift.specs.Fate.{Served, WholeFate, StartingFillTellsTheWholeFate}
+use Rattle.shift.proofs.Answered.{each-answered}
 use Rattle.shift.proofs.Served.{called-good, good-called, served}
 
 module _ (g : Game) (wf : WellFormed g) (top : ℕ) (t : Table) (keeps : Keeps top t) where
@@ -121,6 +122,7 @@ module _ (g : Game) (wf : WellFormed g) (top : ℕ) (t : Table) (keeps : Keeps t
   whole-fate : WholeFate g top t
   whole-fate = record {
     good-start-is-served = good-start;
+    each-call-is-answered = each-answered g top t;
     good-start-is-opened = good-opens;
     bad-start-is-forced = bad-start;
     lip-at-drop-sum-is-no-lip = lip-at-drop-sum-is-no-lip g wf;

@@ -1,7 +1,7 @@
 -- What a starting fill tells of all that can follow, over every board and every vessel.
 use mathlib.Core.Path.{_≡_}
 use mathlib.Core.Logic.{_↔_}
-use mathlib.Core.List.{List}
+use mathlib.Core.List.{List, map}
 use Prim.Native.Nat.{ℕ, _≤_, _<_}
 use Rattle.std.specs.Finite.{nth}
 use Rattle.std.specs.declared.option.Option.{Option}
@@ -19,7 +19,7 @@ use Rattle.solver.specs.Least.{LeastAnswers, HoldsLeastGood, NeverGivesUp}
 use Rattle.solver.specs.Marking.{MarkAnswers}
 use Rattle.shift.specs.declared.Shift.{Shift}
 use Rattle.shift.specs.Answers.{OpenAnswers}
-use Rattle.shift.specs.History.{Event, refusedWith, movesMade, History}
+use Rattle.shift.specs.History.{Call, Event, callOf, refusedWith, movesMade, History}
 
 -- neither the vessel refused a move, nor had an order no good move
 pub record Harmless (f : Fault) : Type 0 where
@@ -39,7 +39,10 @@ pub record WholeFate (g : Game) (top : ℕ) (t : Table) : Type 0 where
   pub good-start-is-served : (old marks : List ℕ) (rounds : ℕ) → MarkAnswers g top t old marks (Ok rounds)
       → (number p c : ℕ) (s : Shift) → OpenAnswers g top marks number p c (Ok s)
       → (es : List Event) (s′ : Shift) → History g top t marks s es s′ → Served g t p c es s′
-  -- and it is opened at every good fill
+  -- each list of calls, whatever the reports name, has such a history
+  pub each-call-is-answered : (marks : List ℕ) (s : Shift) (calls : List Call)
+      → (es : List Event) × (s′ : Shift) × (map callOf es ≡ calls) × History g top t marks s es s′
+  -- and a shift is opened at every good fill
   pub good-start-is-opened : (old marks : List ℕ) (rounds : ℕ) → MarkAnswers g top t old marks (Ok rounds)
       → (number p c : ℕ) → p < g .places → Good g t p c
       → OpenAnswers g top marks number p c (Ok (record { number = number; place = p; level = c; opened = None }))

@@ -15,12 +15,26 @@ use Rattle.shift.specs.declared.Returned.{Returned}
 use Rattle.shift.specs.declared.Shift.{Shift}
 use Rattle.shift.specs.Answers.{OrderAnswers, DoneAnswers, WithdrawnAnswers, ArrivedAnswers}
 
--- a call and its answer; a report may name any shift, place and move
+-- a call on a shift; a report may name any shift, place and move
+pub data Call : Type 0 where
+  AskOrder : Call
+  ReportDone : Order → Call
+  ReportWithdrawn : Order → Call
+  ReportArrived : ℕ → Call
+
+-- a call with its answer
 pub data Event : Type 0 where
   Ordered : Result Order Fault → Event
   Done : Order → Result (Unit {0}) Returned → Event
   Withdrawn : Order → Result (Unit {0}) Returned → Event
   Arrived : ℕ → Result (Unit {0}) Fault → Event
+
+-- the call of an event
+abbrev pub callOf : Event → Call
+callOf (Ordered r) = AskOrder
+callOf (Done o r) = ReportDone o
+callOf (Withdrawn o r) = ReportWithdrawn o
+callOf (Arrived m r) = ReportArrived m
 
 -- the fault that the call was refused with, None where it was accepted
 abbrev pub refusedWith : Event → Option Fault
