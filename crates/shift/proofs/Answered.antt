@@ -12,7 +12,6 @@ use Rattle.hopper.specs.declared.Fault.{Fault}
 use Rattle.hopper.specs.Boards.{stepAt}
 use Rattle.hopper.specs.Refusing.{verdict}
 use Rattle.hopper.proofs.Refusing.{none-fails}
-use Rattle.shift.specs.declared.Order.{Order}
 use Rattle.shift.specs.declared.Shift.{Shift}
 use Rattle.shift.specs.Good.{firstGood}
 use Rattle.shift.specs.Checks.{orderChecks, doneChecks, withdrawnChecks, arrivedChecks}

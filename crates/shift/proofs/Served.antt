@@ -11,7 +11,6 @@ use Rattle.std.specs.Options.{isSome}
 use Rattle.std.specs.Results.{isOk}
 use Rattle.std.specs.declared.option.Option.{Option}
 use Rattle.std.specs.declared.option.Option.the-variants.{Some, None}
-use Rattle.std.specs.declared.result.Result.{Result}
 use Rattle.std.specs.declared.result.Result.the-variants.{Ok, Err}
 use Rattle.std.proofs.shelf.Tests.{true≢false, false≢true, not-false, eqb-true, eq-eqb, and-parts}
 use Rattle.game.specs.declared.Edge.{Edge}
@@ -29,17 +28,16 @@ use Rattle.hopper.specs.declared.Fault.{Fault}
 use Rattle.hopper.specs.Boards.{ownerAt, stepAt}
 use Rattle.hopper.specs.Faults.{refusalNumber}
 use Rattle.hopper.specs.Refusing.{verdict}
-use Rattle.hopper.proofs.Boards.{step-place, step-at, step-inside}
+use Rattle.hopper.proofs.Boards.{step-place, step-inside}
 use Rattle.hopper.proofs.Refusing.{none-fails}
 use Rattle.solver.specs.Entries.{never}
 use Rattle.solver.specs.Marking.{NeverIsGood}
 use Rattle.solver.specs.Planning.{isTheirs}
 use Rattle.shift.specs.declared.Order.{Order}
-use Rattle.shift.specs.declared.Returned.{Returned}
 use Rattle.shift.specs.declared.Shift.{Shift}
 use Rattle.shift.specs.Good.{isGood, isGoodPour, poursGood, movesOf, firstGood}
 use Rattle.shift.specs.Checks.{isOurs, names, pouredTo, orderChecks, doneChecks, withdrawnChecks, arrivedChecks}
-use Rattle.shift.specs.Answers.{withOrder, movedTo, moved, orderFor, OrderAnswers, DoneAnswers, WithdrawnAnswers, ArrivedAnswers}
+use Rattle.shift.specs.Answers.{movedTo, moved}
 use Rattle.shift.specs.History.{Event, Ordered, Done, Withdrawn, Arrived, refusedWith, moveMade, movesMade, Happens, History}
 use Rattle.shift.specs.Fate.{Harmless, Served}
 use Rattle.shift.proofs.Search.{step-is, none-there, some-there, none-passes, first-passes}

@@ -1,10 +1,10 @@
 -- A starting fill tells the whole fate.
-use mathlib.Core.Path.{_≡_, refl, sym, _∙_, ap, subst}
-use mathlib.Core.Bool.{Bool, true, false, not, cond}
+use mathlib.Core.Path.{_≡_, refl, _∙_, ap, subst}
+use mathlib.Core.Bool.{Bool, true, false, cond}
 use mathlib.Core.List.{List}
 use Prim.Native.Nat.{ℕ, _+_, _*_, _≤_, _<_}
 use native.Mathlib.Omega.{arith}
-use lib.Dec.{ltb, leb}
+use lib.Dec.{ltb}
 use lib.ListN.{length}
 use Rattle.std.specs.Results.{isOk}
 use Rattle.std.specs.declared.option.Option.{Option}
@@ -27,7 +27,7 @@ use Rattle.hopper.specs.declared.Refusal.the-variants.{RowTooShort, RowsKeepCha
 use Rattle.hopper.specs.Faults.{fault, refusalNumber}
 use Rattle.hopper.proofs.Refusing.{none-fails, all-pass, passes-is}
 use Rattle.solver.specs.Entries.{entries}
-use Rattle.solver.specs.Least.{tooShort, StillChanging, LeastRefuses, LeastAnswers, HoldsLeastGood, NeverGivesUp}
+use Rattle.solver.specs.Least.{tooShort, StillChanging, LeastAnswers, HoldsLeastGood, NeverGivesUp}
 use Rattle.solver.specs.Marking.{markChecks, MarkAnswers, NeverIsGood}
 use Rattle.solver.proofs.Marks.{never-is-good, bad-is-forced-within, each-fill-has-fate}
 use Rattle.solver.proofs.RowByRow.{some-repeats}
@@ -121,9 +121,9 @@ module _ (g : Game) (wf : WellFormed g) (top : ℕ) (t : Table) (keeps : Keeps t
 
   whole-fate : WholeFate g top t
   whole-fate = record {
+    good-start-is-opened = good-opens;
     good-start-is-served = good-start;
     each-call-is-answered = each-answered g top t;
-    good-start-is-opened = good-opens;
     bad-start-is-forced = bad-start;
     lip-at-drop-sum-is-no-lip = lip-at-drop-sum-is-no-lip g wf;
     least-good-is-answered = least-good;

@@ -21,13 +21,13 @@ use Rattle.shift.specs.declared.Shift.{Shift}
 use Rattle.shift.specs.Answers.{OpenAnswers}
 use Rattle.shift.specs.History.{Call, Event, callOf, refusedWith, movesMade, History}
 
--- neither the vessel refused a move, nor had an order no good move
+-- the fault is neither that the vessel refused a move, nor that an order lacked a good one
 pub record Harmless (f : Fault) : Type 0 where
   pub not-refused-by-vessel : ¬ (f .refusal ≡ VesselRefuses)
   pub not-without-good-move : ¬ (f .refusal ≡ NoGoodMove)
 
--- what becomes of the calls es on a shift opened at place p and fill c: all refusals are harmless, and the shift s then stands where the
--- moves made lead, each to its target and the poured level, at a good fill
+-- what becomes of a shift opened at place p and fill c, once es has happened and it is s: every refusal was harmless, and it stands where
+-- the moves made lead, each to its target and the poured level, and at a good fill
 pub record Served (g : Game) (t : Table) (p c : ℕ) (es : List Event) (s : Shift) : Type 0 where
   pub harmless : (k : ℕ) (e : Event) (f : Fault) → nth es k ≡ Some e → refusedWith e ≡ Some f → Harmless f
   pub led : Poured g t p c (movesMade es) (s .place) (s .level)
@@ -35,17 +35,17 @@ pub record Served (g : Game) (t : Table) (p c : ℕ) (es : List Event) (s : Shif
 
 -- what the fills at which a shift may start tell, over one board and one vessel
 pub record WholeFate (g : Game) (top : ℕ) (t : Table) : Type 0 where
-  -- on marks that an accepted `mark` wrote, a shift that is opened is served in every history of calls
-  pub good-start-is-served : (old marks : List ℕ) (rounds : ℕ) → MarkAnswers g top t old marks (Ok rounds)
-      → (number p c : ℕ) (s : Shift) → OpenAnswers g top marks number p c (Ok s)
-      → (es : List Event) (s′ : Shift) → History g top t marks s es s′ → Served g t p c es s′
-  -- each list of calls, whatever the reports name, has such a history
-  pub each-call-is-answered : (marks : List ℕ) (s : Shift) (calls : List Call)
-      → (es : List Event) × (s′ : Shift) × (map callOf es ≡ calls) × History g top t marks s es s′
-  -- and a shift is opened at every good fill
+  -- on marks that an accepted `mark` wrote, a shift is opened at every good fill
   pub good-start-is-opened : (old marks : List ℕ) (rounds : ℕ) → MarkAnswers g top t old marks (Ok rounds)
       → (number p c : ℕ) → p < g .places → Good g t p c
       → OpenAnswers g top marks number p c (Ok (record { number = number; place = p; level = c; opened = None }))
+  -- and a shift that is opened on them is served in every history of calls
+  pub good-start-is-served : (old marks : List ℕ) (rounds : ℕ) → MarkAnswers g top t old marks (Ok rounds)
+      → (number p c : ℕ) (s : Shift) → OpenAnswers g top marks number p c (Ok s)
+      → (es : List Event) (s′ : Shift) → History g top t marks s es s′ → Served g t p c es s′
+  -- any list of calls, whatever its reports name, has a history
+  pub each-call-is-answered : (marks : List ℕ) (s : Shift) (calls : List Call)
+      → (es : List Event) × (s′ : Shift) × (map callOf es ≡ calls) × History g top t marks s es s′
   -- from a bad fill, above the top too, one reply of the other side has the vessel refuse within the mark, against every plan of ours; up to
   -- the top the mark is at most the rounds of an accepted `mark`
   pub bad-start-is-forced : (p c : ℕ) → p < g .places → ¬ Good g t p c

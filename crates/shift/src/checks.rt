@@ -1,6 +1,5 @@
 // The checks that the calls of a shift share.
 ghost use mathlib.Core.Path.{_≡_};
-ghost use Rattle.hopper.specs.Boards.{stepAt};
 ghost use Rattle.solver.specs.Planning.{isTheirs};
 ghost use Rattle.shift.specs.Checks.{isOurs, names, pouredTo, marksTooShort, orderStillOpen, notOnBoard, placeIsTheirs, placeIsOurs, notTheOpenOrder, noSuchMove, vesselRefuses};
 use super::Order;
