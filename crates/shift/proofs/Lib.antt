@@ -1,0 +1,5 @@
+pub mod Search
+pub mod Ordered
+pub mod Served
+pub mod Answered
+pub mod WholeFate

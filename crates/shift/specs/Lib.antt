@@ -1,0 +1,5 @@
+pub mod Good
+pub mod Checks
+pub mod Answers
+pub mod History
+pub mod Fate
