@@ -101,7 +101,7 @@ module _ (g : Game) (wf : WellFormed g) (top : ℕ) (t : Table) (keeps : Keeps t
       → LeastAnswers g top t row row′ next next′ budget (Ok j) → HoldsLeastGood g t row′
   least-good need graded row row′ next next′ budget j answered p lt =
       let first = answered .2 in
-      let r = first .repeats in
+      let r = first .rounds .0 in
       let same : r .0 p ≡ entries row′ p = unique .row g t top j (r .0) (entries row′) (r .1) (first .row-held) p lt in
       subst (LeastGood g t p) same (repeated-row-is-least-good g wf top t keeps need graded j (r .0) (r .1) (r .2) p lt)
 
