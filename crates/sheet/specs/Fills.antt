@@ -1,10 +1,26 @@
--- The least good fill of a place, read off marks.
-use Prim.Native.Nat.{ℕ, _+_}
+-- The least good fill of a place and the move ordered there, read off marks.
+use mathlib.Core.Bool.{cond, _&&_}
 use mathlib.Core.List.{List}
+use Prim.Native.Nat.{ℕ, _+_}
 use Rattle.std.specs.declared.option.Option.{Option}
+use Rattle.std.specs.declared.option.Option.the-variants.{None}
+use Rattle.game.specs.Game.{Game}
+use Rattle.game.specs.Vessel.{Table}
+use Rattle.hopper.specs.Refusing.{passes}
 use Rattle.lineformat.specs.Checks.{firstFrom}
-use Rattle.shift.specs.Good.{isGood}
+use Rattle.shift.specs.declared.Shift.{Shift}
+use Rattle.shift.specs.Checks.{openChecks, orderChecks}
+use Rattle.shift.specs.Good.{isGood, firstGood}
 
 -- the first level up to the top whose entry is never
 abbrev pub leastMarkedGood : ℕ → List ℕ → ℕ → Option ℕ
 leastMarkedGood top marks p = firstFrom (isGood top marks p) 0 (top + 1)
+
+-- a shift that was just opened at a place and a level
+abbrev pub openedAt : ℕ → ℕ → Shift
+openedAt p c = record { number = 0; place = p; level = c; opened = None }
+
+-- the move ordered there: the first that is poured to a good level, where the shift opens and the order is not refused
+abbrev pub orderedMove : Game → ℕ → Table → List ℕ → ℕ → ℕ → Option ℕ
+orderedMove g top t marks p c =
+    cond (passes (openChecks g top marks p c) && passes (orderChecks g top t marks (openedAt p c))) (firstGood top t marks c (g .at p)) None

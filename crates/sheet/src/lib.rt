@@ -9,6 +9,8 @@ use game::OwnerDisplay;
 use solver::NEVER;
 use std::fmt;
 
+pub mod closed;
+
 // A number, or a word where there is none.
 #[derive(Clone, Copy)]
 pub struct NumberOr<'a> {
