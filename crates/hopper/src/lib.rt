@@ -5,7 +5,9 @@ ghost use Prim.Native.Nat.{ℕ};
 ghost use Rattle.hopper.specs.Faults.{refusalNumber, layerNumber, check, checkAt};
 ghost use Rattle.hopper.specs.Refusing.{verdict};
 ghost use Rattle.hopper.specs.Texts.{refusedText};
+ghost use Rattle.std.specs.Options.{Cases as BySome};
 ghost use Rattle.std.specs.declared.option.Option.the-variants.{Some};
+ghost use Rattle.std.specs.declared.result.Result.the-variants.{Ok, Err};
 use std::fmt;
 
 pub mod any;
@@ -166,16 +168,26 @@ impl Check {
     }
 }
 
+// The fault of the first check that fails.
+fn first_fault(checks: &[Check]) -> Option<Fault>
+    ensures { λ r. ⌜ BySome r (verdict (now (checks .entry)) ≡ Ok tt) (λ f. verdict (now (checks .entry)) ≡ Err f) ⌝ }
+{
+    for check in checks {
+        if check.fails {
+            return Some(check.fault);
+        }
+    }
+    None
+}
+
 // Refuses with the fault of the first check that fails, and passes where none does.
 pub fn pass(checks: &[Check]) -> Result<(), Fault>
     ensures { λ r. ⌜ r ≡ verdict (now (checks .entry)) ⌝ }
 {
-    for check in checks {
-        if check.fails {
-            return Err(check.fault);
-        }
+    match first_fault(checks) {
+        Some(fault) => Err(fault),
+        None => Ok(()),
     }
-    Ok(())
 }
 
 // A fault as every program of the planner prints it: `refused` with its number, its layer and its spot.

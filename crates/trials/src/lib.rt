@@ -3,4 +3,8 @@ pub mod bought;
 #[cfg(test)]
 mod files;
 #[cfg(test)]
+mod lines;
+#[cfg(test)]
 mod marks;
+#[cfg(test)]
+mod rows;

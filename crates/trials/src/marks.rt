@@ -3,7 +3,11 @@ use crate::bought::Leak;
 use crate::bought::LeakBoard;
 use crate::bought::Sieve;
 use crate::bought::SieveVessel;
-use hopper::AnyVessel;
+use crate::lines::OURS;
+use crate::lines::file_of;
+use crate::lines::line_p;
+use crate::lines::line_q;
+use crate::lines::told;
 use hopper::Closed;
 use hopper::Fault;
 use hopper::FaultDebug;
@@ -12,33 +16,16 @@ use hopper::any::AnyVesselVessel;
 use hopper::closed::ClosedVessel;
 use hopper::lip::LipVessel;
 use linefile::FileLine;
-use linefile::LineTables;
 use linefile::board::FileLineBoard;
 use lineformat::MoveRecord;
 use lineformat::PlaceRecord;
 use solver::NEVER;
 use solver::forced;
 use solver::mark;
-use std::alloc::AllocError;
-use std::alloc::Global;
 use std::test::*;
-
-const OURS: PlaceRecord = PlaceRecord {
-    owner: 0,
-    letters: 0,
-    moves: 1,
-};
 
 // A number that stands in a buffer before a call.
 const OLD: u32 = 77;
-
-// What a call answers: zeros and the rounds, or number, layer and spot of its fault.
-fn told(answer: Result<u32, Fault>) -> (u8, u8, u64) {
-    match answer {
-        Ok(rounds) => (0, 0, rounds as u64),
-        Err(fault) => (fault.number(), fault.layer.number(), fault.spot),
-    }
-}
 
 // Reads a file and marks its line with its own vessel.
 fn mark_file(file: &[u8], marks: &mut [u32]) -> (u8, u8, u64) {
@@ -52,91 +39,9 @@ fn mark_file(file: &[u8], marks: &mut [u32]) -> (u8, u8, u64) {
     }
 }
 
-// The file of tables without names.
-fn file_of<'x>(
-    heap: Global,
-    places: &'x [PlaceRecord],
-    moves: &'x [MoveRecord],
-    kind: u8,
-    top: u32,
-    draw: u16,
-) -> Result<Vec<u8>, AllocError> {
-    let size = places
-        .len()
-        .saturating_add(moves.len())
-        .saturating_mul(4)
-        .saturating_add(16);
-    let mut out = vec![in heap; 0u8; size]?;
-    let _written = LineTables {
-        places,
-        moves,
-        names: b"",
-        kind,
-        top,
-        draw,
-    }.write(&mut out);
-    Ok(out)
-}
-
-// 5 litres in from place 0 to 1, 5 litres out from 1 to 0; both ours.
-fn line_p(heap: Global, kind: u8, top: u32) -> Result<Vec<u8>, AllocError> {
-    file_of(
-        heap,
-        &[OURS, OURS],
-        &[
-            MoveRecord {
-                target: 1,
-                amount: 5,
-            },
-            MoveRecord {
-                target: 0,
-                amount: -5,
-            },
-        ],
-        kind,
-        top,
-        0,
-    )
-}
-
-// At place 0 we take 3 out and go to 1, or pour 2 in and stay; at 1 they pour 4 in or take 2 out, and go to 0.
-fn line_q(heap: Global, kind: u8, top: u32) -> Result<Vec<u8>, AllocError> {
-    let places = [
-        PlaceRecord {
-            owner: 0,
-            letters: 0,
-            moves: 2,
-        },
-        PlaceRecord {
-            owner: 1,
-            letters: 0,
-            moves: 2,
-        },
-    ];
-    let moves = [
-        MoveRecord {
-            target: 1,
-            amount: -3,
-        },
-        MoveRecord {
-            target: 0,
-            amount: 2,
-        },
-        MoveRecord {
-            target: 0,
-            amount: 4,
-        },
-        MoveRecord {
-            target: 0,
-            amount: -2,
-        },
-    ];
-    file_of(heap, &places, &moves, kind, top, 0)
-}
-
 #[test]
 fn p_over_closed_six(rt: LibcRuntime) -> Result<(), Fail> {
-    let file = line_p(rt.alloc(), 1, 6)?;
+    let file = line_p(rt.alloc(), 1, 6, 0)?;
     let mut marks = [OLD; 17];
     check_eq(mark_file(&file, &mut marks), (0, 0, 1))?;
     check(

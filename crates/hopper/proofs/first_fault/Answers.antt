@@ -12,7 +12,7 @@ use Rattle.hopper.specs.declared.Layer.the-variants.{Bytes}
 use Rattle.hopper.specs.declared.Refusal.the-variants.{FileTooLong}
 use Rattle.hopper.specs.Faults.{check}
 use Rattle.hopper.specs.Refusing.{verdict}
-use Rattle.hopper.proofs.pass.Needs as need
+use Rattle.hopper.proofs.first_fault.Needs as need
 
 abbrev none : Check
 none = check false FileTooLong Bytes 0
@@ -21,8 +21,8 @@ pub returns-then-check : need.returns-then-check
 returns-then-check c =
     let xs = c .args .checks .now in
     let i = c .loop-check .check-index in
-    sym (c .loop-check .inv ∙ at-drop-more verdict xs i none (c .loop-check-test .taken)
-    ∙ cond-true (getD xs i none .fails) (Err (getD xs i none .fault)) (verdict (drop (i + 1) xs)) (c .if-check .taken))
+    c .loop-check .inv ∙ at-drop-more verdict xs i none (c .loop-check-test .taken)
+    ∙ cond-true (getD xs i none .fails) (Err (getD xs i none .fault)) (verdict (drop (i + 1) xs)) (c .if-check .taken)
 
 pub loop-check-again : need.loop-check-again
 loop-check-again c =
@@ -33,4 +33,4 @@ loop-check-again c =
 
 pub returns : need.returns
 returns c =
-    sym (c .loop-check .inv ∙ at-drop-all verdict (c .args .checks .now) (c .loop-check .check-index) (c .loop-check-test .left))
+    c .loop-check .inv ∙ at-drop-all verdict (c .args .checks .now) (c .loop-check .check-index) (c .loop-check-test .left)

@@ -1,7 +1,7 @@
 use mathlib.Core.Path.{_≡_}
 use lib.ListN.{drop}
 use Rattle.hopper.specs.Refusing.{verdict}
-use Rattle.hopper.proofs.pass.Given as given
+use Rattle.hopper.proofs.first_fault.Given as given
 
 -- the checks so far have passed
 abbrev pub Inv-loop-check : given.InvT-loop-check
