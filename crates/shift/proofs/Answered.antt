@@ -1,11 +1,12 @@
 -- Each call on a shift is answered.
-use mathlib.Core.Path.{_≡_, refl, ap}
+use mathlib.Core.Path.{_≡_, refl, sym, _∙_, ap}
 use mathlib.Core.List.{List, [], _∷_, map}
 use Prim.Native.Nat.{ℕ}
 use Rattle.std.specs.Results.{isOk}
 use Rattle.std.specs.declared.option.Option.the-variants.{Some, None}
 use Rattle.std.specs.declared.result.Result.{Result}
 use Rattle.std.specs.declared.result.Result.the-variants.{Ok, Err}
+use Rattle.std.proofs.shelf.Tests.{not-false}
 use Rattle.game.specs.Game.{Game}
 use Rattle.game.specs.Vessel.{Table}
 use Rattle.hopper.specs.declared.Fault.{Fault}
@@ -13,11 +14,11 @@ use Rattle.hopper.specs.Boards.{stepAt}
 use Rattle.hopper.specs.Refusing.{verdict}
 use Rattle.hopper.proofs.Refusing.{none-fails}
 use Rattle.shift.specs.declared.Shift.{Shift}
-use Rattle.shift.specs.Good.{firstGood}
+use Rattle.shift.specs.Good.{poursGood, movesOf, hasGoodMove, FirstGoodMove}
 use Rattle.shift.specs.Checks.{orderChecks, doneChecks, withdrawnChecks, arrivedChecks}
 use Rattle.shift.specs.Answers.{withOrder, moved, orderFor}
 use Rattle.shift.specs.History.{Call, AskOrder, ReportDone, ReportWithdrawn, ReportArrived, Event, Ordered, Done, Withdrawn, Arrived, callOf, Happens, History}
-use Rattle.shift.proofs.Search.{some-there}
+use Rattle.shift.proofs.Search.{step-is, first-there}
 
 module _ (g : Game) (top : ℕ) (t : Table) (marks : List ℕ) where
   -- the call k on the shift s has an answer
@@ -30,8 +31,16 @@ module _ (g : Game) (top : ℕ) (t : Table) (marks : List ℕ) where
       by : (r : Result (Unit {0}) Fault) → verdict (orderChecks g top t marks s) ≡ r → Answered s AskOrder
       by (Ok u) is =
           let passed = none-fails (orderChecks g top t marks s) (ap isOk is) in
-          let w = some-there (firstGood top t marks (s .level) (g .at (s .place))) (passed .1 .1 .1 .1 .0) in
-          (Ordered (Ok (orderFor s (w .0))), withOrder s (Some (w .0)), refl, (is, (w .1, refl, refl)))
+          let at = g .at (s .place) in
+          let test = poursGood top t marks (s .level) in
+          let w = first-there test (movesOf at) (not-false (hasGoodMove top t marks (s .level) at) (passed .1 .1 .1 .1 .0)) in
+          let first : FirstGoodMove top t marks (s .level) at (w .0) = record {
+            move = w .1 .0;
+            is-move = step-is at (w .0) ∙ w .1 .1;
+            good = w .1 .2;
+            first = λ k lt e is. w .1 .3 k lt e (sym (step-is at k) ∙ is);
+          } in
+          (Ordered (Ok (orderFor s (w .0))), withOrder s (Some (w .0)), refl, (is, (first, refl, refl)))
       by (Err f) is = (Ordered (Err f), s, refl, (is, refl))
   answered s (ReportDone o) = by (verdict (doneChecks g top t s o)) refl
     where

@@ -1,13 +1,11 @@
 -- The table of an order: the checks before the search for a good move, and the one that the search decides.
 use mathlib.Core.Path.{_≡_, sym, _∙_, ap}
-use mathlib.Core.Bool.{not}
+use mathlib.Core.Bool.{Bool, not}
 use mathlib.Core.List.{List, [], _∷_}
 use Prim.Native.Nat.{ℕ, _<_}
 use native.Mathlib.Omega.{arith}
-use Rattle.std.specs.Options.{isSome}
-use Rattle.std.specs.declared.option.Option.{Option}
-use Rattle.std.specs.declared.option.Option.the-variants.{Some, None}
-use Rattle.std.specs.declared.result.Result.the-variants.{Ok, Err}
+use Rattle.std.specs.declared.option.Option.the-variants.{Some}
+use Rattle.std.specs.declared.result.Result.the-variants.{Ok}
 use Rattle.game.specs.declared.Edge.{Edge}
 use Rattle.game.specs.Game.{Game, WellFormed}
 use Rattle.game.specs.Limits.{mostMoves}
@@ -17,12 +15,12 @@ use Rattle.hopper.specs.declared.Check.{Check}
 use Rattle.hopper.specs.declared.Layer.the-variants.{Rest}
 use Rattle.hopper.specs.declared.Refusal.the-variants.{NoGoodMove}
 use Rattle.hopper.specs.Boards.{stepAt}
-use Rattle.hopper.specs.Faults.{fault, check}
+use Rattle.hopper.specs.Faults.{check}
 use Rattle.hopper.specs.Refusing.{verdict}
 use Rattle.hopper.proofs.Boards.{nth-below, step-place}
 use Rattle.hopper.proofs.Refusing.{second-decides}
 use Rattle.shift.specs.declared.Shift.{Shift}
-use Rattle.shift.specs.Good.{firstGood}
+use Rattle.shift.specs.Good.{hasGoodMove}
 use Rattle.shift.specs.Checks.{orderStillOpen, notOnBoard, marksTooShort, placeIsTheirs, noGoodMove, orderChecks}
 
 -- a move has a small number
@@ -39,15 +37,8 @@ module _ (g : Game) (top : ℕ) (t : Table) (marks : List ℕ) (s : Shift) where
 
   module _ (u : Unit {0}) (passed : Ok u ≡ verdict asked) where
     -- then the search decides
-    decided : (o : Option ℕ) → firstGood top t marks (s .level) (g .at (s .place)) ≡ o
-        → verdict (orderChecks g top t marks s) ≡ verdict (check (not (isSome o)) NoGoodMove Rest (s .place) ∷ [])
-    decided o is =
+    pub decided : (b : Bool) → hasGoodMove top t marks (s .level) (g .at (s .place)) ≡ b
+        → verdict (orderChecks g top t marks s) ≡ verdict (check (not b) NoGoodMove Rest (s .place) ∷ [])
+    decided b is =
         sym (second-decides asked (noGoodMove g top t marks s ∷ []) tt u passed)
-        ∙ ap (λ (x : Option ℕ). verdict (check (not (isSome x)) NoGoodMove Rest (s .place) ∷ [])) is
-
-    pub accepted : (m : ℕ) → firstGood top t marks (s .level) (g .at (s .place)) ≡ Some m → verdict (orderChecks g top t marks s) ≡ Ok tt
-    accepted m is = decided (Some m) is
-
-    pub lacking : firstGood top t marks (s .level) (g .at (s .place)) ≡ None
-        → verdict (orderChecks g top t marks s) ≡ Err (fault NoGoodMove Rest (s .place))
-    lacking is = decided None is
+        ∙ ap (λ (x : Bool). verdict (check (not x) NoGoodMove Rest (s .place) ∷ [])) is

@@ -1,24 +1,23 @@
--- The search for the first move that passes a test, one turn at a time.
-use mathlib.Core.Path.{_≡_, refl, sym, _∙_, ap, subst}
-use mathlib.Core.Bool.{Bool, true, false, not, cond}
+-- The search for the first good move, and what it finds.
+use mathlib.Core.Path.{_≡_, refl, sym, _∙_, subst}
+use mathlib.Core.Bool.{Bool, true, false, not, _||_}
 use mathlib.Core.List.{List, [], _∷_}
 use mathlib.Core.Logic.{inl, inr}
 use Prim.Native.Nat.{ℕ, zero, suc, _+_, _≤_, _<_}
 use native.Mathlib.Omega.{arith}
-use lib.ListN.{length, drop, getD}
-use Rattle.std.proofs.shelf.Lists.{at-drop-more, at-drop-all}
-use Rattle.std.proofs.shelf.Maps.{nth-getD}
-use Rattle.std.proofs.shelf.Tests.{true≢false, false≢true, cases-lt, cond-true, cond-false}
+use lib.ListN.{length}
+use borrow.Author.Count.{below-more}
 use Rattle.std.specs.Finite.{nth}
 use Rattle.std.specs.Options.{isSome}
 use Rattle.std.specs.declared.option.Option.{Option}
 use Rattle.std.specs.declared.option.Option.the-variants.{Some, None}
+use Rattle.std.proofs.shelf.Tests.{true≢false, false≢true, cases-lt, or-parts, or-from, or-left, or-right}
 use Rattle.game.specs.declared.Edge.{Edge}
 use Rattle.game.specs.Game.{Place}
 use Rattle.game.proofs.Base.{none-some, some-inj}
 use Rattle.hopper.specs.Boards.{stepAt}
 use Rattle.hopper.proofs.Boards.{nth-below, nth-there}
-use Rattle.shift.specs.Good.{firstFrom, movesOf}
+use Rattle.shift.specs.Good.{anyMove, movesOf}
 
 -- a test whether nothing is there
 pub none-there : {A : Type 0} (o : Option A) → not (isSome o) ≡ true → o ≡ None
@@ -34,59 +33,59 @@ pub step-is : (at : Option Place) (m : ℕ) → stepAt at m ≡ nth (movesOf at)
 step-is None m = refl
 step-is (Some q) m = refl
 
--- none of the moves before m passes
-abbrev pub Passed : (Edge → Bool) → Option Place → ℕ → Type 0
-Passed test at m = firstFrom m test (drop m (movesOf at)) ≡ firstFrom 0 test (movesOf at)
+module _ (test : Edge → Bool) where
+  -- where no move passes, each of them fails
+  pub each-fails : (es : List Edge) → anyMove test es ≡ false → (m : ℕ) (e : Edge) → nth es m ≡ Some e → test e ≡ false
+  each-fails [] none m e is = absurd (none-some is)
+  each-fails (x ∷ es) none zero e is = subst (λ (y : Edge). test y ≡ false) (some-inj is) (or-parts (test x) (anyMove test es) none .0)
+  each-fails (x ∷ es) none (suc m) e is = each-fails es (or-parts (test x) (anyMove test es) none .1) m e is
 
-module _ (test : Edge → Bool) (at : Option Place) (m : ℕ) (passed : Passed test at m) where
-  module _ (e : Edge) (is : stepAt at m ≡ Some e) where
-    here : firstFrom m test (drop m (movesOf at)) ≡ cond (test e) (Some m) (firstFrom (m + 1) test (drop (m + 1) (movesOf at)))
-    here =
-        let es : List Edge = movesOf at in
-        let n : nth es m ≡ Some e = sym (step-is at m) ∙ is in
-        let lt : m < length es = nth-below es m e n in
-        let same : getD es m e ≡ e = some-inj (sym (nth-getD es m e lt) ∙ n) in
-        at-drop-more (firstFrom m test) es m e lt ∙ ap (λ (y : Edge). firstFrom m test (y ∷ drop (m + 1) es)) same
+  pub none-passes : (es : List Edge) → ((m : ℕ) (e : Edge) → nth es m ≡ Some e → test e ≡ false) → anyMove test es ≡ false
+  none-passes [] fails = refl
+  none-passes (x ∷ es) fails = or-from (test x) (anyMove test es) (fails 0 x refl) (none-passes es (λ m e is. fails (suc m) e is))
 
-    pub passed-more : test e ≡ false → Passed test at (m + 1)
-    passed-more no-good =
-        sym (cond-false (test e) (Some m) (firstFrom (m + 1) test (drop (m + 1) (movesOf at))) no-good) ∙ (sym here ∙ passed)
+  pub one-passes : (es : List Edge) (m : ℕ) (e : Edge) → nth es m ≡ Some e → test e ≡ true → anyMove test es ≡ true
+  one-passes [] m e is good = absurd (none-some is)
+  one-passes (x ∷ es) zero e is good = or-left (test x) (anyMove test es) (subst (λ (y : Edge). test y ≡ true) (sym (some-inj is)) good)
+  one-passes (x ∷ es) (suc m) e is good = or-right (test x) (anyMove test es) (one-passes es m e is good)
 
-    pub found : test e ≡ true → firstFrom 0 test (movesOf at) ≡ Some m
-    found is-good =
-        sym passed ∙ (here ∙ cond-true (test e) (Some m) (firstFrom (m + 1) test (drop (m + 1) (movesOf at))) is-good)
+  -- m is the first that passes
+  abbrev FirstOf : List Edge → ℕ → Type 0
+  FirstOf es m = (e : Edge) × (nth es m ≡ Some e) × (test e ≡ true) × ((k : ℕ) → k < m → (y : Edge) → nth es k ≡ Some y → test y ≡ false)
 
-  pub found-none : stepAt at m ≡ None → firstFrom 0 test (movesOf at) ≡ None
-  found-none is = sym passed ∙ at-drop-all (firstFrom m test) (movesOf at) m past
+  -- where some move passes, there is a first
+  pub first-there : (es : List Edge) → anyMove test es ≡ true → (m : ℕ) × FirstOf es m
+  first-there [] some = absurd (false≢true some)
+  first-there (x ∷ es) some = by (test x) refl some (first-there es)
     where
-      past : length (movesOf at) ≤ m
-      past = elim (cases-lt m (length (movesOf at))) [
-        | inl lt ↦ absurd (nth-there (movesOf at) m lt (sym (step-is at m) ∙ is))
-        | inr le ↦ le
-      ]
+      by : (b : Bool) → test x ≡ b → (b || anyMove test es) ≡ true → (anyMove test es ≡ true → (m : ℕ) × FirstOf es m) → (m : ℕ) × FirstOf (x ∷ es) m
+      by true told some rest = (0, (x, refl, told, λ k lt y is. absurd (omega arith)))
+      by false told some rest = let w = rest some in (suc (w .0), (w .1 .0, w .1 .1, w .1 .2, later (w .0) (w .1 .3)))
+        where
+          later : (m : ℕ) → ((k : ℕ) → k < m → (y : Edge) → nth es k ≡ Some y → test y ≡ false)
+              → (k : ℕ) → k < suc m → (y : Edge) → nth (x ∷ es) k ≡ Some y → test y ≡ false
+          later m before zero lt y is = subst (λ (z : Edge). test z ≡ false) (some-inj is) told
+          later m before (suc k) lt y is = before k (omega arith) y is
 
--- where the first is none, no move passes
-pub none-passes : (test : Edge → Bool) (i : ℕ) (es : List Edge) → firstFrom i test es ≡ None → (m : ℕ) (e : Edge) → nth es m ≡ Some e → test e ≡ false
-none-passes test i [] none m e is = absurd (none-some is)
-none-passes test i (x ∷ es) none m e is = by (test x) refl none (λ rest k. none-passes test (i + 1) es rest k e) m is
-  where
-    by : (b : Bool) → test x ≡ b → cond b (Some i) (firstFrom (i + 1) test es) ≡ None
-        → (firstFrom (i + 1) test es ≡ None → (k : ℕ) → nth es k ≡ Some e → test e ≡ false)
-        → (k : ℕ) → nth (x ∷ es) k ≡ Some e → test e ≡ false
-    by true told none f k is = absurd (none-some (sym none))
-    by false told none f zero is = subst (λ (y : Edge). test y ≡ false) (some-inj is) told
-    by false told none f (suc k) is = f none k is
+  module _ (at : Option Place) where
+    -- no move before m passes
+    abbrev pub Passed : ℕ → Type 0
+    Passed m = (k : ℕ) → k < m → (e : Edge) → stepAt at k ≡ Some e → test e ≡ false
 
--- where it is m, move m passes
-pub first-passes : (test : Edge → Bool) (i : ℕ) (es : List Edge) (m : ℕ) → firstFrom i test es ≡ Some m
-    → (k : ℕ) × (m ≡ i + k) × (e : Edge) × (nth es k ≡ Some e) × (test e ≡ true)
-first-passes test i [] m first = absurd (none-some first)
-first-passes test i (x ∷ es) m first = by (test x) refl first (first-passes test (i + 1) es m)
-  where
-    by : (b : Bool) → test x ≡ b → cond b (Some i) (firstFrom (i + 1) test es) ≡ Some m
-        → (firstFrom (i + 1) test es ≡ Some m → (k : ℕ) × (m ≡ i + 1 + k) × (e : Edge) × (nth es k ≡ Some e) × (test e ≡ true))
-        → (k : ℕ) × (m ≡ i + k) × (e : Edge) × (nth (x ∷ es) k ≡ Some e) × (test e ≡ true)
-    by true told first f = (0, (let same : i ≡ m = some-inj first in omega arith), x, refl, told)
-    by false told first f =
-        let w = f first in
-        (suc (w .0), (let same = w .1 in omega arith), w .2, w .3, w .4)
+    pub passed-more : (m : ℕ) → Passed m → (e : Edge) → stepAt at m ≡ Some e → test e ≡ false → Passed (m + 1)
+    passed-more m passed e is fails =
+        below-more (λ (k : ℕ). (y : Edge) → stepAt at k ≡ Some y → test y ≡ false) m passed
+        (λ y here. subst (λ (z : Edge). test z ≡ false) (some-inj (sym is ∙ here)) fails)
+
+    pub some-found : (m : ℕ) (e : Edge) → stepAt at m ≡ Some e → test e ≡ true → anyMove test (movesOf at) ≡ true
+    some-found m e is good = one-passes (movesOf at) m e (sym (step-is at m) ∙ is) good
+
+    pub none-found : (m : ℕ) → Passed m → stepAt at m ≡ None → anyMove test (movesOf at) ≡ false
+    none-found m passed none =
+        none-passes (movesOf at) (λ k e is. passed k (let lt = nth-below (movesOf at) k e is in omega (arith, past)) e (step-is at k ∙ is))
+      where
+        past : length (movesOf at) ≤ m
+        past = elim (cases-lt m (length (movesOf at))) [
+          | inl lt ↦ absurd (nth-there (movesOf at) m lt (sym (step-is at m) ∙ none))
+          | inr le ↦ le
+        ]

@@ -12,7 +12,7 @@ use Rattle.std.specs.Results.{isOk}
 use Rattle.std.specs.declared.option.Option.{Option}
 use Rattle.std.specs.declared.option.Option.the-variants.{Some, None}
 use Rattle.std.specs.declared.result.Result.the-variants.{Ok, Err}
-use Rattle.std.proofs.shelf.Tests.{true≢false, false≢true, not-false, eqb-true, eq-eqb, and-parts}
+use Rattle.std.proofs.shelf.Tests.{true≢false, false≢true, not-true, not-false, eqb-true, eq-eqb, and-parts}
 use Rattle.game.specs.declared.Edge.{Edge}
 use Rattle.game.specs.declared.Owner.{Owner}
 use Rattle.game.specs.declared.Owner.the-variants.{Ours, Theirs}
@@ -35,12 +35,12 @@ use Rattle.solver.specs.Marking.{NeverIsGood}
 use Rattle.solver.specs.Planning.{isTheirs}
 use Rattle.shift.specs.declared.Order.{Order}
 use Rattle.shift.specs.declared.Shift.{Shift}
-use Rattle.shift.specs.Good.{isGood, isGoodPour, poursGood, movesOf, firstGood}
+use Rattle.shift.specs.Good.{isGood, isGoodPour, poursGood, movesOf, hasGoodMove, FirstGoodMove}
 use Rattle.shift.specs.Checks.{isOurs, names, pouredTo, orderChecks, doneChecks, withdrawnChecks, arrivedChecks}
 use Rattle.shift.specs.Answers.{movedTo, moved}
 use Rattle.shift.specs.History.{Event, Ordered, Done, Withdrawn, Arrived, refusedWith, moveMade, movesMade, Happens, History}
 use Rattle.shift.specs.Fate.{Harmless, Served}
-use Rattle.shift.proofs.Search.{step-is, none-there, some-there, none-passes, first-passes}
+use Rattle.shift.proofs.Search.{step-is, none-there, some-there, each-fails}
 
 -- ---- tables whose refusals are harmless
 -- each check is harmless, or cannot fail where those before it have passed
@@ -112,12 +112,12 @@ module _ (g : Game) (wf : WellFormed g) (top : ℕ) (t : Table) (keeps : Keeps t
       (subst (λ (o : Owner). Choice o (w .0 .moves) (Through t (Good g t) c)) own (w .2))
 
   -- so an order lacks no good move
-  not-lacking : (p c : ℕ) → Good g t p c → isTheirs (ownerAt (g .at p)) ≡ false → firstGood top t marks c (g .at p) ≡ None → ⊥
+  not-lacking : (p c : ℕ) → Good g t p c → isTheirs (ownerAt (g .at p)) ≡ false → hasGoodMove top t marks c (g .at p) ≡ false → ⊥
   not-lacking p c good ours none =
       let w = ours-leads p c good ours in
       let is : stepAt (g .at p) (w .0) ≡ Some (w .1) = step-is (g .at p) (w .0) ∙ w .2 in
       true≢false (sym (good-is-poured c (w .1) (step-inside g wf p (w .0) (w .1) is) (w .3))
-      ∙ none-passes (poursGood top t marks c) 0 (movesOf (g .at p)) none (w .0) (w .1) (w .2))
+      ∙ each-fails (poursGood top t marks c) (movesOf (g .at p)) none (w .0) (w .1) (w .2))
 
   -- ---- one call
   -- move m is one of the place, and leads on to a good fill
@@ -133,13 +133,9 @@ module _ (g : Game) (wf : WellFormed g) (top : ℕ) (t : Table) (keeps : Keeps t
     pub good : Good g t (s .place) (s .level)
     pub pending : Pending s (s .opened)
 
-  first-leads-on : (s : Shift) (m : ℕ) → firstGood top t marks (s .level) (g .at (s .place)) ≡ Some m → LeadsOn s m
-  first-leads-on s m first =
-      let at = g .at (s .place) in
-      let w = first-passes (poursGood top t marks (s .level)) 0 (movesOf at) m first in
-      let same : w .0 ≡ m = (let is = w .1 in omega arith) in
-      let is : stepAt at m ≡ Some (w .2) = step-is at m ∙ subst (λ (k : ℕ). nth (movesOf at) k ≡ Some (w .2)) same (w .3) in
-      (w .2, is, pours-to-good (s .level) (w .2) (step-inside g wf (s .place) m (w .2) is) (w .4))
+  first-leads-on : (s : Shift) (m : ℕ) → FirstGoodMove top t marks (s .level) (g .at (s .place)) m → LeadsOn s m
+  first-leads-on s m w =
+      (w .move, w .is-move, pours-to-good (s .level) (w .move) (step-inside g wf (s .place) m (w .move) (w .is-move)) (w .good))
 
   -- what is left of a shift by moves that are poured
   record Led (s : Shift) (run : Run) (s′ : Shift) : Type 0 where
@@ -195,7 +191,7 @@ module _ (g : Game) (wf : WellFormed g) (top : ℕ) (t : Table) (keeps : Keeps t
           λ _. (
             λ _. mild _ (λ h. omega arith) (λ h. omega arith),
             λ ours. (
-              λ fails. absurd (not-lacking (s .place) (s .level) (ok .good) ours (none-there (firstGood top t marks (s .level) (g .at (s .place))) fails)),
+              λ fails. absurd (not-lacking (s .place) (s .level) (ok .good) ours (not-true (hasGoodMove top t marks (s .level) (g .at (s .place))) fails)),
               λ _. tt,
             ),
           ),

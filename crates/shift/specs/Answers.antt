@@ -17,7 +17,7 @@ use Rattle.shift.specs.declared.Order.{Order}
 use Rattle.shift.specs.declared.Returned.{Returned}
 use Rattle.shift.specs.declared.Shift.{Shift}
 use Rattle.shift.specs.declared.StillOpen.{StillOpen}
-use Rattle.shift.specs.Good.{firstGood}
+use Rattle.shift.specs.Good.{FirstGoodMove}
 use Rattle.shift.specs.Checks.{openChecks, orderChecks, doneChecks, withdrawnChecks, arrivedChecks, closeChecks}
 
 -- the shift with this order open, or none
@@ -47,7 +47,7 @@ orderFor s m = record { shift = s .number; place = s .place; mv = m }
 abbrev pub OrderAnswers : Game → ℕ → Table → List ℕ → Shift → Shift → Result Order Fault → Type 0
 OrderAnswers g top t marks s s′ =
     Answers (orderChecks g top t marks s)
-    (λ o. (firstGood top t marks (s .level) (g .at (s .place)) ≡ Some (o .mv)) × (o ≡ orderFor s (o .mv)) × (s′ ≡ withOrder s (Some (o .mv))))
+    (λ o. FirstGoodMove top t marks (s .level) (g .at (s .place)) (o .mv) × (o ≡ orderFor s (o .mv)) × (s′ ≡ withOrder s (Some (o .mv))))
     (s′ ≡ s)
 
 -- a report of the order o is answered: the shift is as told, or the order is handed back with the fault and the shift is as it was

@@ -36,7 +36,7 @@ use Rattle.hopper.specs.Faults.{check}
 use Rattle.solver.specs.Planning.{isTheirs}
 use Rattle.shift.specs.declared.Order.{Order}
 use Rattle.shift.specs.declared.Shift.{Shift}
-use Rattle.shift.specs.Good.{isGood, firstGood}
+use Rattle.shift.specs.Good.{isGood, hasGoodMove}
 
 -- the place is ours
 abbrev pub isOurs : Option Owner → Bool
@@ -76,7 +76,7 @@ placeIsOurs g s = check (isOurs (ownerAt (g .at (s .place)))) PlaceIsOurs Rest (
 
 -- no move is poured to a good level
 abbrev pub noGoodMove : Game → ℕ → Table → List ℕ → Shift → Check
-noGoodMove g top t marks s = check (not (isSome (firstGood top t marks (s .level) (g .at (s .place))))) NoGoodMove Rest (s .place)
+noGoodMove g top t marks s = check (not (hasGoodMove top t marks (s .level) (g .at (s .place)))) NoGoodMove Rest (s .place)
 
 -- none is open, or another than this order
 abbrev pub notTheOpenOrder : Shift → Order → Check

@@ -1,7 +1,8 @@
 -- Good fills as they are read off marks, and the first move that leads to one.
-use mathlib.Core.Bool.{Bool, false, cond}
+use mathlib.Core.Path.{_≡_}
+use mathlib.Core.Bool.{Bool, true, false, _||_}
 use mathlib.Core.List.{List, [], _∷_}
-use Prim.Native.Nat.{ℕ, _+_}
+use Prim.Native.Nat.{ℕ, _<_}
 use lib.Dec.{eqb}
 use lib.ListN.{getD}
 use Rattle.std.specs.declared.option.Option.{Option}
@@ -10,6 +11,7 @@ use Rattle.game.specs.declared.Edge.{Edge}
 use Rattle.game.specs.Game.{Place}
 use Rattle.game.specs.Vessel.{Table}
 use Rattle.game.specs.Forced.{cell}
+use Rattle.hopper.specs.Boards.{stepAt}
 use Rattle.solver.specs.Entries.{never}
 
 -- the marks call the fill c at place p good
@@ -25,16 +27,23 @@ isGoodPour top marks p (Some d) = isGood top marks p d
 abbrev pub poursGood : ℕ → Table → List ℕ → ℕ → Edge → Bool
 poursGood top t marks c e = isGoodPour top marks (e .target) (t c (e .amount))
 
--- the first move that passes the test, where the moves are numbered from i on
-abbrev pub firstFrom : ℕ → (Edge → Bool) → List Edge → Option ℕ
-firstFrom i test [] = None
-firstFrom i test (e ∷ es) = cond (test e) (Some i) (firstFrom (i + 1) test es)
+-- some move passes the test
+abbrev pub anyMove : (Edge → Bool) → List Edge → Bool
+anyMove test [] = false
+anyMove test (e ∷ es) = test e || anyMove test es
 
 -- the moves of what stands at a place number
 abbrev pub movesOf : Option Place → List Edge
 movesOf None = []
 movesOf (Some q) = q .moves
 
--- the first move, in number order, that the vessel pours from level c to a good level
-abbrev pub firstGood : ℕ → Table → List ℕ → ℕ → Option Place → Option ℕ
-firstGood top t marks c at = firstFrom 0 (poursGood top t marks c) (movesOf at)
+-- some move of it is poured from level c to a good level
+abbrev pub hasGoodMove : ℕ → Table → List ℕ → ℕ → Option Place → Bool
+hasGoodMove top t marks c at = anyMove (poursGood top t marks c) (movesOf at)
+
+-- m is the first such move, in number order
+pub record FirstGoodMove (top : ℕ) (t : Table) (marks : List ℕ) (c : ℕ) (at : Option Place) (m : ℕ) : Type 0 where
+  pub move : Edge
+  pub is-move : stepAt at m ≡ Some move
+  pub good : poursGood top t marks c move ≡ true
+  pub first : (k : ℕ) → k < m → (e : Edge) → stepAt at k ≡ Some e → poursGood top t marks c e ≡ false

@@ -1,8 +1,7 @@
 // Orders: given out for the first good move, and withdrawn.
 ghost use mathlib.Core.Path.{_≡_};
-ghost use Rattle.std.specs.declared.option.Option.the-variants.{Some};
 ghost use Rattle.hopper.specs.Refusing.{Answers};
-ghost use Rattle.shift.specs.Good.{firstGood};
+ghost use Rattle.shift.specs.Good.{FirstGoodMove};
 ghost use Rattle.shift.specs.Checks.{orderChecks};
 ghost use Rattle.shift.specs.Answers.{OrderAnswers, WithdrawnAnswers};
 use super::Order;
@@ -36,7 +35,7 @@ impl Shift {
         vessel: &V,
         marks: &[u32],
     ) -> Result<u32, Fault>
-        ensures { λ r. ⌜ Answers (orderChecks (B·Board .game (now (board .entry))) (V·Vessel .top (now (vessel .entry))) (V·Vessel .table (now (vessel .entry))) (now (marks .entry)) (now (self .entry))) (λ m. firstGood (V·Vessel .top (now (vessel .entry))) (V·Vessel .table (now (vessel .entry))) (now (marks .entry)) (now (self .entry) .level) (B·Board .game (now (board .entry)) .at (now (self .entry) .place)) ≡ Some m) (Unit {0}) r ⌝ }
+        ensures { λ r. ⌜ Answers (orderChecks (B·Board .game (now (board .entry))) (V·Vessel .top (now (vessel .entry))) (V·Vessel .table (now (vessel .entry))) (now (marks .entry)) (now (self .entry))) (FirstGoodMove (V·Vessel .top (now (vessel .entry))) (V·Vessel .table (now (vessel .entry))) (now (marks .entry)) (now (self .entry) .level) (B·Board .game (now (board .entry)) .at (now (self .entry) .place))) (Unit {0}) r ⌝ }
     {
         pass(
             &[

@@ -8,8 +8,8 @@ use Rattle.hopper.specs.Boards.{stepAt}
 use Rattle.hopper.specs.Refusing.{verdict}
 use Rattle.hopper.proofs.Boards.{step-below}
 use Rattle.shift.specs.Good.{poursGood}
-use Rattle.shift.proofs.Search.{passed-more, found, found-none}
-use Rattle.shift.proofs.Ordered.{asked, accepted, lacking, few}
+use Rattle.shift.proofs.Search.{passed-more, some-found, none-found}
+use Rattle.shift.proofs.Ordered.{asked, decided, few}
 use Rattle.shift.proofs.Shift.first_good.Needs as need
 
 pub returns-in-rest : need.returns-in-rest
@@ -23,7 +23,7 @@ returns-in-rest g c =
     let is : stepAt at (c .loop-edge .m) ≡ None = cc in
     let u = c .in-Continue-pass .field-0 in
     let passed : Ok u ≡ verdict (asked game top t marks s) = search needs in
-    (lacking game top t marks s u passed (found-none (poursGood top t marks (s .level)) at (c .loop-edge .m) (c .loop-edge .inv) is), tt)
+    (decided game top t marks s u passed false (none-found (poursGood top t marks (s .level)) at (c .loop-edge .m) (c .loop-edge .inv) is), tt)
 
 pub add-m : need.add-m
 add-m g c =
@@ -59,7 +59,8 @@ returns g c =
     let test = poursGood top t marks (s .level) in
     let is : stepAt at (c .loop-edge .m) ≡ Some (c .in-Some .edge) = cc in
     let good : test (c .in-Some .edge) ≡ true = cc in
-    let first = found test at (c .loop-edge .m) (c .loop-edge .inv) (c .in-Some .edge) is good in
     let u = c .in-Continue-pass .field-0 in
-    let passed : Ok u ≡ verdict (asked game top t marks s) = search needs in
-    (accepted game top t marks s u passed (c .loop-edge .m) first, first)
+    let passed : Ok u ≡ verdict (asked game top t marks s) = search needs in (
+      decided game top t marks s u passed true (some-found test at (c .loop-edge .m) (c .in-Some .edge) is good),
+      record { move = c .in-Some .edge; is-move = is; good = good; first = c .loop-edge .inv },
+    )
