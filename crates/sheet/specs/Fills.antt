@@ -1,16 +1,17 @@
 -- The least good fill of a place and the move ordered there, read off marks.
-use mathlib.Core.Bool.{cond, _&&_}
+use mathlib.Core.Path.{_≡_}
+use mathlib.Core.Bool.{false, _&&_}
 use mathlib.Core.List.{List}
 use Prim.Native.Nat.{ℕ, _+_}
 use Rattle.std.specs.declared.option.Option.{Option}
-use Rattle.std.specs.declared.option.Option.the-variants.{None}
+use Rattle.std.specs.declared.option.Option.the-variants.{Some, None}
 use Rattle.game.specs.Game.{Game}
 use Rattle.game.specs.Vessel.{Table}
 use Rattle.hopper.specs.Refusing.{passes}
 use Rattle.lineformat.specs.Checks.{firstFrom}
 use Rattle.shift.specs.declared.Shift.{Shift}
 use Rattle.shift.specs.Checks.{openChecks, orderChecks}
-use Rattle.shift.specs.Good.{isGood, firstGood}
+use Rattle.shift.specs.Good.{isGood, FirstGoodMove}
 
 -- the first level up to the top whose entry is never
 abbrev pub leastMarkedGood : ℕ → List ℕ → ℕ → Option ℕ
@@ -20,7 +21,7 @@ leastMarkedGood top marks p = firstFrom (isGood top marks p) 0 (top + 1)
 abbrev pub openedAt : ℕ → ℕ → Shift
 openedAt p c = record { number = 0; place = p; level = c; opened = None }
 
--- the move ordered there: the first that is poured to a good level, where the shift opens and the order is not refused
-abbrev pub orderedMove : Game → ℕ → Table → List ℕ → ℕ → ℕ → Option ℕ
-orderedMove g top t marks p c =
-    cond (passes (openChecks g top marks p c) && passes (orderChecks g top t marks (openedAt p c))) (firstGood top t marks c (g .at p)) None
+-- the move ordered there: the first that is poured to a good level; none just where the shift does not open or its order is refused
+abbrev pub OrderedMove : Game → ℕ → Table → List ℕ → ℕ → ℕ → Option ℕ → Type 0
+OrderedMove g top t marks p c None = (passes (openChecks g top marks p c) && passes (orderChecks g top t marks (openedAt p c))) ≡ false
+OrderedMove g top t marks p c (Some m) = FirstGoodMove top t marks c (g .at p) m

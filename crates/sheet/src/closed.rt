@@ -2,7 +2,7 @@
 ghost use mathlib.Core.Path.{_≡_};
 ghost use Prim.Native.Nat.{ℕ, _+_};
 ghost use Rattle.shift.specs.Good.{isGood};
-ghost use Rattle.sheet.specs.Fills.{leastMarkedGood, orderedMove};
+ghost use Rattle.sheet.specs.Fills.{leastMarkedGood, OrderedMove};
 use hopper::Board;
 use hopper::Vessel;
 use shift::Shift;
@@ -41,7 +41,7 @@ pub fn ordered_move<B: Board, V: Vessel>(
     place: u32,
     fill: u32,
 ) -> Option<u32>
-    ensures { λ r. ⌜ r ≡ orderedMove (B·Board .game (now (board .entry))) (V·Vessel .top (now (vessel .entry))) (V·Vessel .table (now (vessel .entry))) (now (marks .entry)) place fill ⌝ }
+    ensures { λ r. ⌜ OrderedMove (B·Board .game (now (board .entry))) (V·Vessel .top (now (vessel .entry))) (V·Vessel .table (now (vessel .entry))) (now (marks .entry)) place fill r ⌝ }
 {
     match Shift::open(0, board, vessel, marks, place, fill) {
         Err(_) => None,

@@ -102,4 +102,3 @@ pub(crate) fn line_q(heap: Global, kind: u8, top: u32) -> Result<Vec<u8>, AllocE
     ];
     file_of(heap, &places, &moves, kind, top, 0)
 }
-

@@ -29,7 +29,13 @@ use solver::plan;
 use std::test::*;
 
 // The rounds of `least` on a line with its own vessel, or number, layer and spot of the fault.
-fn least_on<V: Graded>(line: &FileLine, vessel: &V, row: &mut [u32], next: &mut [u32], budget: u64) -> (u8, u8, u64) {
+fn least_on<V: Graded>(
+    line: &FileLine,
+    vessel: &V,
+    row: &mut [u32],
+    next: &mut [u32],
+    budget: u64,
+) -> (u8, u8, u64) {
     match least(line, vessel, row, next, budget) {
         Ok(rounds) => (0, 0, rounds),
         Err(fault) => (fault.number(), fault.layer.number(), fault.spot),
@@ -54,15 +60,30 @@ fn least_fills_of_p_and_q(rt: LibcRuntime) -> Result<(), Fail> {
     let heap = rt.alloc();
     let mut row = [7u32; 3];
     let mut next = [8u32; 3];
-    check_eq(least_of(&line_p(heap, 0, 6, 0)?, &mut row, &mut next, 14), (0, 0, 1))?;
+    check_eq(
+        least_of(&line_p(heap, 0, 6, 0)?, &mut row, &mut next, 14),
+        (0, 0, 1),
+    )?;
     check(row == [0, 5, 7] && next == [0, 5, 8])?;
-    check_eq(least_of(&line_p(heap, 0, 5, 0)?, &mut row, &mut next, 12), (0, 0, 1))?;
+    check_eq(
+        least_of(&line_p(heap, 0, 5, 0)?, &mut row, &mut next, 12),
+        (0, 0, 1),
+    )?;
     check(row == [0, 5, 7] && next == [0, 5, 8])?;
-    check_eq(least_of(&line_p(heap, 0, 4, 0)?, &mut row, &mut next, 10), (0, 0, 2))?;
+    check_eq(
+        least_of(&line_p(heap, 0, 4, 0)?, &mut row, &mut next, 10),
+        (0, 0, 2),
+    )?;
     check(row == [NEVER, NEVER, 7] && next == [NEVER, NEVER, 8])?;
-    check_eq(least_of(&line_p(heap, 2, 6, 1)?, &mut row, &mut next, 14), (0, 0, 3))?;
+    check_eq(
+        least_of(&line_p(heap, 2, 6, 1)?, &mut row, &mut next, 14),
+        (0, 0, 3),
+    )?;
     check(row == [NEVER, NEVER, 7] && next == [NEVER, NEVER, 8])?;
-    check_eq(least_of(&line_q(heap, 0, 10)?, &mut row, &mut next, 22), (0, 0, 1))?;
+    check_eq(
+        least_of(&line_q(heap, 0, 10)?, &mut row, &mut next, 22),
+        (0, 0, 1),
+    )?;
     check(row == [0, 2, 7] && next == [0, 2, 8])
 }
 
@@ -132,7 +153,10 @@ fn closed_row(file: &[u8], place: u32) -> (Option<u32>, Option<u32>) {
             AnyVessel::OfClosed(vessel) => {
                 let _rounds = mark(&line, &vessel, &mut marks);
                 let fill = least_marked_good(&marks, 6, place);
-                (fill, ordered_move(&line, &vessel, &marks, place, fill.unwrap_or(0)))
+                (
+                    fill,
+                    ordered_move(&line, &vessel, &marks, place, fill.unwrap_or(0)),
+                )
             }
             AnyVessel::OfLip(_) => (None, None),
             AnyVessel::OfDrawn(_) => (None, None),
