@@ -2,13 +2,16 @@
 use mathlib.Core.Path.{_≡_}
 use mathlib.Core.Bool.{false, _&&_}
 use mathlib.Core.List.{List}
-use Prim.Native.Nat.{ℕ, _+_}
+use Prim.Native.Nat.{ℕ, _+_, _<_}
 use Rattle.std.specs.declared.option.Option.{Option}
 use Rattle.std.specs.declared.option.Option.the-variants.{Some, None}
-use Rattle.game.specs.Game.{Game}
-use Rattle.game.specs.Vessel.{Table}
+use Rattle.std.specs.declared.result.Result.the-variants.{Ok}
+use Rattle.game.specs.Game.{Game, WellFormed}
+use Rattle.game.specs.Vessel.{Table, Keeps}
+use Rattle.game.specs.Fill.{LeastGood}
 use Rattle.hopper.specs.Refusing.{passes}
 use Rattle.lineformat.specs.Checks.{firstFrom}
+use Rattle.solver.specs.Marking.{MarkAnswers}
 use Rattle.shift.specs.declared.Shift.{Shift}
 use Rattle.shift.specs.Checks.{openChecks, orderChecks}
 use Rattle.shift.specs.Good.{isGood, FirstGoodMove}
@@ -16,6 +19,12 @@ use Rattle.shift.specs.Good.{isGood, FirstGoodMove}
 -- the first level up to the top whose entry is never
 abbrev pub leastMarkedGood : ℕ → List ℕ → ℕ → Option ℕ
 leastMarkedGood top marks p = firstFrom (isGood top marks p) 0 (top + 1)
+
+-- on marks that an accepted `mark` wrote: the least good fill of the place
+abbrev pub LeastGoodByMarks : ℕ → List ℕ → ℕ → Option ℕ → Type 0
+LeastGoodByMarks top marks p r =
+    (g : Game) → WellFormed g → (t : Table) → Keeps top t → (old : List ℕ) (rounds : ℕ) → MarkAnswers g top t old marks (Ok rounds)
+    → p < g .places → LeastGood g t p r
 
 -- a shift that was just opened at a place and a level
 abbrev pub openedAt : ℕ → ℕ → Shift

@@ -2,7 +2,7 @@
 ghost use mathlib.Core.Path.{_≡_};
 ghost use Prim.Native.Nat.{ℕ, _+_};
 ghost use Rattle.shift.specs.Good.{isGood};
-ghost use Rattle.sheet.specs.Fills.{leastMarkedGood, OrderedMove};
+ghost use Rattle.sheet.specs.Fills.{leastMarkedGood, LeastGoodByMarks, OrderedMove};
 use hopper::Board;
 use hopper::Vessel;
 use shift::Shift;
@@ -22,6 +22,24 @@ fn marked_good(marks: &[u32], top: u32, place: u32, fill: u32) -> bool
 
 // The least good fill of a place, by marks over a vessel with this top.
 pub fn least_marked_good(marks: &[u32], top: u32, place: u32) -> Option<u32>
+    ensures value { λ r. ⌜ r ≡ leastMarkedGood top (now (marks .entry)) place ⌝ }
+    ensures least { λ r. ⌜ LeastGoodByMarks top (now (marks .entry)) place r ⌝ }
+{
+    let fill = first_marked_good(marks, top, place);
+    is_least_good(marks, top, place, fill);
+    fill
+}
+
+// On the marks of an accepted `mark` that is the least good fill.
+fn is_least_good(marks: &[u32], top: u32, place: u32, fill: Option<u32>)
+    requires { ⌜ fill ≡ leastMarkedGood top (now marks) place ⌝ }
+    ensures { λ _. ⌜ LeastGoodByMarks top (now (marks .entry)) place fill ⌝ }
+{
+    let _n = marks.len();
+}
+
+// The first level whose entry is never.
+fn first_marked_good(marks: &[u32], top: u32, place: u32) -> Option<u32>
     ensures { λ r. ⌜ r ≡ leastMarkedGood top (now (marks .entry)) place ⌝ }
 {
     let levels = top as u64 + 1;

@@ -1,4 +1,5 @@
 // A board and a vessel that are not of the planner: it is enough that they keep the rules of boards and vessels.
+ghost use mathlib.Core.Path.{_≡_};
 ghost use Prim.Native.Nat.{_≤_};
 ghost use Rattle.game.specs.Limits.{mostTop};
 ghost use Rattle.trials.specs.Bought.{leakGame, leak-formed, sieve, sieve-keeps};
@@ -54,7 +55,9 @@ pub struct Sieve {
 
 impl Sieve {
     // A sieve of three litres.
-    pub fn small() -> Sieve {
+    pub fn small() -> Sieve
+        ensures { λ r. ⌜ r .top ≡ 3 ⌝ }
+    {
         Sieve { top: 3 }
     }
 }

@@ -5,7 +5,7 @@ use Prim.Native.Nat.{ℕ, _+_}
 use Rattle.lineformat.specs.Checks.{firstFrom}
 use Rattle.lineformat.proofs.Scan.{scan-on, scan-stop, scan-end}
 use Rattle.shift.specs.Good.{isGood}
-use Rattle.sheet.proofs.closed.least_marked_good.Needs as need
+use Rattle.sheet.proofs.closed.first_marked_good.Needs as need
 
 pub returns-then-marked-good : need.returns-then-marked-good
 returns-then-marked-good c =

@@ -2,7 +2,7 @@ use mathlib.Core.Path.{_≡_}
 use Prim.Native.Nat.{_+_, _-_}
 use Rattle.lineformat.specs.Checks.{firstFrom}
 use Rattle.shift.specs.Good.{isGood}
-use Rattle.sheet.proofs.closed.least_marked_good.Given as given
+use Rattle.sheet.proofs.closed.first_marked_good.Given as given
 
 -- no level so far is marked good
 abbrev pub Inv-loop-c : given.InvT-loop-c
