@@ -4,3 +4,5 @@ pub mod bought;
 mod files;
 #[cfg(test)]
 mod marks;
+#[cfg(test)]
+mod shifts;
