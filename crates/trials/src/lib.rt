@@ -8,3 +8,5 @@ mod lines;
 mod marks;
 #[cfg(test)]
 mod rows;
+#[cfg(test)]
+mod shifts;
