@@ -28,7 +28,7 @@ use std::test::*;
 const OLD: u32 = 77;
 
 // Reads a file and marks its line with its own vessel.
-fn mark_file(file: &[u8], marks: &mut [u32]) -> (u8, u8, u64) {
+pub(crate) fn mark_file(file: &[u8], marks: &mut [u32]) -> (u8, u8, u64) {
     let mut line = FileLine::built_in();
     match line.read(file) {
         Err(fault) => (fault.number(), fault.layer.number(), fault.spot),

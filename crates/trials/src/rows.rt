@@ -1,12 +1,14 @@
 // Rows of least good fills, plans on them, the gauge, and what a plan sheet says of a closed line.
-use crate::lines::file_of;
 use crate::lines::line_p;
 use crate::lines::line_q;
 use crate::lines::told;
+use crate::marks::mark_file;
+use game::Owner;
+use game::OwnerDisplay;
 use gauge::dip;
 use gauge::height;
 use hopper::AnyVessel;
-use hopper::Fault;
+use hopper::FaultDebug;
 use hopper::Graded;
 use hopper::closed::ClosedVessel;
 use hopper::drawn::DrawnGraded;
@@ -15,9 +17,7 @@ use hopper::lip::LipGraded;
 use hopper::lip::LipVessel;
 use linefile::FileLine;
 use linefile::board::FileLineBoard;
-use lineformat::MoveRecord;
-use lineformat::PlaceRecord;
-use sheet::NumberOr;
+use linefile::printing::FileLineDisplay;
 use sheet::SheetRow;
 use sheet::SheetRowDisplay;
 use sheet::closed::least_marked_good;
@@ -170,4 +170,74 @@ fn rows_of_a_closed_line(rt: LibcRuntime) -> Result<(), Fail> {
     check_eq(closed_row(&file, 0), (Some(0), Some(0)))?;
     check_eq(closed_row(&file, 1), (Some(5), Some(0)))?;
     check_eq(closed_row(&file, 2), (None, None))
+}
+
+#[test]
+fn rows_as_they_are_printed(rt: LibcRuntime) -> Result<(), Fail> {
+    let heap = rt.alloc();
+    let high = SheetRow {
+        place: 1,
+        owner: Owner::Theirs,
+        fill: Some(9_000),
+        height: height(9_000).ok(),
+        mv: None,
+        name: "",
+    };
+    check(format!(heap, "{high}")?.as_str() == "1 theirs 9000 - - ")?;
+    let none = SheetRow {
+        place: 0,
+        owner: Owner::Ours,
+        fill: None,
+        height: None,
+        mv: None,
+        name: "pit",
+    };
+    check(format!(heap, "{none}")?.as_str() == "0 ours none - - pit")
+}
+
+// Whether the row of a file's line is this text.
+fn line_reads(rt: &LibcRuntime, file: &[u8], text: &str) -> Result<bool, Fail> {
+    let mut line = FileLine::built_in();
+    line.read(file)?;
+    Ok(format!(rt.alloc(), "{line}")?.as_str() == text)
+}
+
+#[test]
+fn headers_of_the_three_kinds(rt: LibcRuntime) -> Result<(), Fail> {
+    let heap = rt.alloc();
+    check(line_reads(&rt, &line_p(heap, 0, 6, 0)?, "line 2 places 2 moves lip 6")?)?;
+    check(
+        line_reads(
+            &rt,
+            &line_p(heap, 1, 6, 0)?,
+            "line 2 places 2 moves closed 6",
+        )?,
+    )?;
+    check(
+        line_reads(
+            &rt,
+            &line_p(heap, 2, 6, 1)?,
+            "line 2 places 2 moves drawn 6 1",
+        )?,
+    )
+}
+
+// What marking a closed line answers with the marks of a sheet.
+fn sheet_marks(rt: &LibcRuntime, file: &[u8]) -> Result<(u8, u8, u64), Fail> {
+    let mut marks = vec![in rt.alloc(); 0u32; 8_192]?;
+    Ok(mark_file(file, &mut marks))
+}
+
+#[test]
+fn closed_lines_that_fit_a_sheet(rt: LibcRuntime) -> Result<(), Fail> {
+    let heap = rt.alloc();
+    check_eq(sheet_marks(&rt, &line_p(heap, 1, 4_094, 0)?)?, (0, 0, 1))?;
+    check_eq(
+        sheet_marks(&rt, &line_p(heap, 1, 4_095, 0)?)?,
+        (17, 4, 8_193),
+    )?;
+    check_eq(
+        sheet_marks(&rt, &line_p(heap, 1, 32_768, 0)?)?,
+        (16, 4, 32_768),
+    )
 }
