@@ -1,6 +1,6 @@
 -- The least good fill of a place and the move ordered there, read off marks.
 use mathlib.Core.Path.{_≡_}
-use mathlib.Core.Bool.{false, _&&_}
+use mathlib.Core.Bool.{Bool, true, false, _&&_}
 use mathlib.Core.List.{List}
 use Prim.Native.Nat.{ℕ, _+_, _<_}
 use Rattle.std.specs.declared.option.Option.{Option}
@@ -30,7 +30,11 @@ LeastGoodByMarks top marks p r =
 abbrev pub openedAt : ℕ → ℕ → Shift
 openedAt p c = record { number = 0; place = p; level = c; opened = None }
 
--- the move ordered there: the first that is poured to a good level; none just where the shift does not open or its order is refused
+-- the shift opens there, and its order is not refused
+abbrev pub isOrdered : Game → ℕ → Table → List ℕ → ℕ → ℕ → Bool
+isOrdered g top t marks p c = passes (openChecks g top marks p c) && passes (orderChecks g top t marks (openedAt p c))
+
+-- the move ordered there: the first that is poured to a good level, and none just where the shift does not open or its order is refused
 abbrev pub OrderedMove : Game → ℕ → Table → List ℕ → ℕ → ℕ → Option ℕ → Type 0
-OrderedMove g top t marks p c None = (passes (openChecks g top marks p c) && passes (orderChecks g top t marks (openedAt p c))) ≡ false
-OrderedMove g top t marks p c (Some m) = FirstGoodMove top t marks c (g .at p) m
+OrderedMove g top t marks p c None = isOrdered g top t marks p c ≡ false
+OrderedMove g top t marks p c (Some m) = (isOrdered g top t marks p c ≡ true) × FirstGoodMove top t marks c (g .at p) m
