@@ -1,4 +1,6 @@
 // Marks the fills of a line file from standard input with its own vessel, and says which are good at each place.
+#![tactic(auto)]
+
 use hopper::limits::MOST_FILLS;
 use hopper::{AnyVessel, Board, Vessel};
 use linefile::FileLine;

@@ -1,4 +1,6 @@
 // The parts of a weighted game: owners of places, and moves.
+#![tactic(auto)]
+
 ghost use Rattle.std.specs.Prelude.{◌≡◌, Some};
 ghost use Rattle.game.specs.Owners.{owner_number, owner_text};
 

@@ -1,4 +1,6 @@
 // The gauge of the hopper: the litres at a height in millimetres, and the height of so many litres.
+#![tactic(auto)]
+
 ghost use Rattle.std.specs.Prelude.{◌≡◌, ◌≤◌};
 ghost use Rattle.hopper.specs.Refusing.{refuse, Answers};
 ghost use Rattle.gauge.specs.Gauge.{most_height, litres, dip_checks, height_checks, IsLeastHeight};

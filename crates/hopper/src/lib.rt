@@ -1,4 +1,6 @@
 // Boards and vessels, and what every call of the planner answers where it refuses: a fault, by its table of checks.
+#![tactic(auto)]
+
 ghost use Rattle.std.specs.Prelude.{◌≡◌, Some, Ok, Err, MatchOption, ◌==◌};
 ghost use Rattle.hopper.specs.Faults.{refusal_number, layer_number, check, check_at};
 ghost use Rattle.hopper.specs.Refusing.{verdict};

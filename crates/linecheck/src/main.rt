@@ -1,4 +1,6 @@
 // Checks a line file from standard input: says what is in it and that the writer makes the same bytes of it again, or how it is refused.
+#![tactic(auto)]
+
 ghost use Rattle.std.specs.Prelude.{◌≡◌, ◌++◌, length, drop, MatchResult};
 ghost use Rattle.linefile.specs.Held.{file_of};
 

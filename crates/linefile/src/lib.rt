@@ -1,4 +1,6 @@
 // Line files: a line over the bytes of its file, and a line in tables.
+#![tactic(auto)]
+
 ghost use Rattle.std.specs.Prelude.{◌≡◌, ℕ, ◌<◌, true, length, slice_index};
 ghost use Rattle.hopper.specs.Refusing.{passes};
 ghost use Rattle.lineformat.specs.Format.{line_of};

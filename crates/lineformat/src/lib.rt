@@ -1,4 +1,6 @@
 // The line file's types: the kind of its vessel, and its records. specs/ has the format, and proofs/ the laws of it.
+#![tactic(auto)]
+
 ghost use Rattle.std.specs.Prelude.{◌≡◌};
 ghost use Rattle.lineformat.specs.Kinds.{kind_number};
 

@@ -1,4 +1,6 @@
 // Looking ahead: whether a fill holds for the next few moves of a line over its own vessel.
+#![tactic(auto)]
+
 use hopper::AnyVessel;
 use linefile::FileLine;
 

@@ -1,4 +1,6 @@
 // Prints the plan sheet of a line file from standard input: for each place the least good fill, its height on the gauge and our move.
+#![tactic(auto)]
+
 use game::Owner;
 use gauge::height;
 use hopper::{AnyVessel, Board, Closed, Graded, Vessel};

@@ -1,4 +1,6 @@
 // Prints the plan sheet of each line file that it is given, with what marks and look-ahead say of the fills that its rows turn on.
+#![tactic(auto)]
+
 use gauge::height;
 use hopper::limits::MOST_FILLS;
 use hopper::vessel::Vessel;

@@ -1,4 +1,6 @@
 // The rows of a plan sheet: what they say of a place, and their text.
+#![tactic(auto)]
+
 ghost use Rattle.std.specs.Prelude.{◌≡◌, Some};
 ghost use Rattle.solver.specs.Entries.{as_entry};
 ghost use Rattle.sheet.specs.Texts.{number_or, row_text};

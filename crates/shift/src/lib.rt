@@ -1,4 +1,6 @@
 // Shifts: opened at a good fill, and led on by orders, reports of them, and the moves that the other side makes.
+#![tactic(auto)]
+
 ghost use Rattle.std.specs.Prelude.{◌≡◌};
 
 use hopper::Fault;

@@ -1,4 +1,6 @@
 // Runs the calls of a shift, read from standard input, on the line of a file and its own vessel, and says what each one answers.
+#![tactic(auto)]
+
 use call::Call;
 use desk::{Desk, end, step, unmade};
 use hopper::limits::MOST_FILLS;

@@ -1,4 +1,6 @@
 // The solvers: who can force a run where, how long fills hold, the least fills that hold for ever, and the moves that keep them.
+#![tactic(auto)]
+
 pub mod forcing;
 pub mod marking;
 mod moves;

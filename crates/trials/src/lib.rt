@@ -1,4 +1,6 @@
 // The tests that run: tables of cases for the calls of the libraries, and a board and a vessel as a buyer would make them.
+#![tactic(auto)]
+
 #[cfg(test)]
 mod ahead;
 pub mod bought;

@@ -1,4 +1,6 @@
 // The worked cases: two small lines under each kind of vessel, and four heights of the gauge.
+#![tactic(auto)]
+
 ghost use Rattle.std.specs.Prelude.{◌≡◌, [], ◌∷◌, Ok};
 ghost use Rattle.worked.specs.Worked.{Worked};
 
