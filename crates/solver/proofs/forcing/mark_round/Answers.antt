@@ -3,7 +3,7 @@ use Rattle.std.proofs.Common.{ℕ, ◌<◌, ◌≤◌, length, get_or, arith, ru
 use Rattle.solver.specs.Entries.{never}
 use Rattle.solver.proofs.Rounds.{round_set, round_old, round_not}
 use Rattle.solver.proofs.forcing.mark_round.Goals as goal
-use Rattle.solver.proofs.forcing.mark_round.Goals.{then-marks-place+then-can-force, else-marks-place, else-marks-place-via-then-marks-place+else-can-force, else-marks-place-via-else-marks-place}
+use Rattle.solver.proofs.forcing.mark_round.Goals.{then-marks-place+then-can_force, else-marks-place, else-marks-place-via-then-marks-place+else-can_force, else-marks-place-via-else-marks-place}
 
 pub loop-place-preserved : goal.loop-place-preserved
 loop-place-preserved g c =
@@ -19,9 +19,9 @@ loop-place-preserved g c =
     let room : n < length new = omega arith in
     let value : get_or new n 0 ≤ never = search rules in
     elim c.if-marks-place.branch [
-      | then-marks-place+then-can-force w ↦ simp (w.marks-is, w.fresh-is) (round_set game formed old round small fits n new fresh c.loop-place.invariant room w.if-marks-place.true w.if-can-force.ensures)
+      | then-marks-place+then-can_force w ↦ simp (w.marks-is, w.fresh-is) (round_set game formed old round small fits n new fresh c.loop-place.invariant room w.if-marks-place.true w.if-can_force.ensures)
       | else-marks-place w ↦ simp (w.marks-is, w.fresh-is) (elim w.else-marks-place.branch [
-        | else-marks-place-via-then-marks-place+else-can-force w' ↦ round_not game formed old round small fits n new fresh c.loop-place.invariant w'.if-marks-place.true w'.if-can-force.ensures
+        | else-marks-place-via-then-marks-place+else-can_force w' ↦ round_not game formed old round small fits n new fresh c.loop-place.invariant w'.if-marks-place.true w'.if-can-force.ensures
         | else-marks-place-via-else-marks-place w' ↦ round_old game formed old round small fits n new fresh c.loop-place.invariant (let no = w'.if-marks-place.false in omega arith)
       ])
     ]

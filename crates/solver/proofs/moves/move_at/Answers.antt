@@ -6,7 +6,7 @@ use Rattle.solver.proofs.moves.move_at.Goals as goal
 pub unreachable-requires : goal.unreachable-requires
 unreachable-requires g c =
     let board = c.args.board.now in
-    step_there ((g.B.Board.game board).at c.args.place) c.args.m c.requires (sym c.step.ensures ∙ c.in-default.is)
+    step_there ((g.B.Board.game board).at c.args.place) c.args.m c.requires (sym c.step.ensures ∙ c.in_default.is)
 
 pub returns : goal.returns
 returns g c =

@@ -6,7 +6,7 @@ use Rattle.solver.proofs.moves.move_count.Goals as goal
 pub unreachable-requires : goal.unreachable-requires
 unreachable-requires g c =
     let board = c.args.board.now in
-    moves_there (g.B.Board.game board) (g.B.Board.formed board) c.args.place c.requires (sym c.moves.ensures ∙ c.in-default.is)
+    moves_there (g.B.Board.game board) (g.B.Board.formed board) c.args.place c.requires (sym c.moves.ensures ∙ c.in_default.is)
 
 pub returns : goal.returns
 returns g c =

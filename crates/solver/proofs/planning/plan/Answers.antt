@@ -57,11 +57,11 @@ returns-then-needed-entry g c =
     let keeps = g.V.Vessel.keeps v in
     let row = c.args.row.now in
     let p = c.args.place in
-    let e = c.move-at-edge.result in
+    let e = c.move_at-edge.result in
     let f : SFits w32 e.amount = search rules in
     let served : Parts top (Serves t row e) c.needed.result = simp to_z-of_z at c.needed.ensures in
     let number : get_or row p 0 < never = omega (arith, c.type-inv.row p) in
-    let is = c.move-at-edge.ensures.answered in
+    let is = c.move_at-edge.ensures.answered in
     record {
       answer = (
         search rules,
@@ -78,11 +78,11 @@ pub loop-m-preserved : goal.loop-m-preserved
 loop-m-preserved g c =
     let board = c.args.board.now in
     let v = c.args.vessel.now in
-    let e = c.move-at-edge.result in
+    let e = c.move_at-edge.result in
     let f : SFits w32 e.amount = search rules in
     let served : Parts (g.V.Vessel.top v) (Serves (g.V.Vessel.table v) c.args.row.now e) c.needed.result = simp to_z-of_z at c.needed.ensures in
     passed_further (g.B.Board.game board) (g.B.Board.formed board) (g.V.Vessel.top v) (g.V.Vessel.table v) (g.V.Vessel.keeps v) c.args.row.now c.args.place
-    c.loop-m.m e c.move-at-edge.ensures.answered c.needed.result served c.if-needed-entry.false c.loop-m.invariant
+    c.loop-m.m e c.move_at-edge.ensures.answered c.needed.result served c.if-needed-entry.false c.loop-m.invariant
 
 pub returns : goal.returns
 returns g c =
@@ -96,7 +96,7 @@ returns g c =
     let row = c.args.row.now in
     let p = c.args.place in
     let h : verdict (asked game (length row) p) ≡ Ok tt = search rules in
-    let all : count_at (game.at p) ≤ c.loop-m.m = omega (arith, c.move-count-m-end.ensures) in
+    let all : count_at (game.at p) ≤ c.loop-m.m = omega (arith, c.move_count-m-end.ensures) in
     record {
       answer = unserved_answer game formed top t row p h
           (λ m s. let below = step_below (game.at p) m s.move s.is_move in passed_not game formed top t keeps row p c.loop-m.m m c.loop-m.invariant (omega arith) s);

@@ -17,11 +17,11 @@ pub loop-m-preserved : goal.loop-m-preserved
 loop-m-preserved g c =
     let v = c.args.vessel.now in
     let game = g.B.Board.game c.args.board.now in
-    let e = c.move-at-edge.result in
+    let e = c.move_at-edge.result in
     let f : SFits w32 e.amount = search rules in
     let asked : Parts (g.V.Vessel.top v) (Serves (g.V.Vessel.table v) c.args.row.now e) c.needed-level.result = simp to_z-of_z at c.needed-level.ensures in
     each_more game (g.V.Vessel.top v) (g.V.Vessel.keeps v).top_fits (g.V.Vessel.table v) c.args.row.now c.args.place
-    c.loop-m.m e c.move-at-edge.ensures.answered c.loop-m.best c.needed-level.result c.if-level-best.best asked
+    c.loop-m.m e c.move_at-edge.ensures.answered c.loop-m.best c.needed-level.result c.if-level-best.best asked
     (elim c.if-level-best.branch [
       | then-level-best w ↦ inr (w.best-is, omega (arith, w.if-level-best.true))
       | else-level-best w ↦ inl (w.best-is, w.if-level-best.false)
@@ -32,5 +32,5 @@ pub returns : goal.returns
 returns g c =
     let v = c.args.vessel.now in
     let game = g.B.Board.game c.args.board.now in
-    let all : count_at (game.at c.args.place) ≤ c.loop-m.m = omega (arith, c.move-count-m-end.ensures) in
+    let all : count_at (game.at c.args.place) ≤ c.loop-m.m = omega (arith, c.move_count-m-end.ensures) in
     each_all game (g.V.Vessel.top v) (g.V.Vessel.keeps v).top_fits (g.V.Vessel.table v) c.args.row.now c.args.place c.loop-m.m c.loop-m.best all c.loop-m.invariant

@@ -14,7 +14,7 @@ loop-budget-init g c =
     let filled : Filled game.places 0 c.args.row.now c.fill.new.buffer = rw c.places-places.ensures at c.fill.ensures in (
       omega arith,
       started game (g.B.Board.formed board) (g.V.Vessel.top vessel) (g.V.Vessel.table vessel) (g.V.Vessel.keeps vessel) c.args.row.now c.args.next.now
-          c.fill.new.buffer c.next-row.new.next filled c.next-row.ensures,
+          c.fill.new.buffer c.next_row.new.next filled c.next_row.ensures,
     )
 
 pub loop-budget-preserved : goal.loop-budget-preserved
@@ -26,8 +26,8 @@ loop-budget-preserved g c =
     let copied : Copied game.places c.loop-budget.next c.loop-budget.row c.copy.new.row = rw c.places-places.ensures at c.copy.ensures in (
       (let h = c.loop-budget.invariant.0 in omega arith),
       rw (add-one c.loop-budget.rounds)
-          (gone_on game (g.B.Board.formed board) (g.V.Vessel.top vessel) (g.V.Vessel.table vessel) (g.V.Vessel.keeps vessel) c.fill.new.buffer c.next-row.new.next
-          c.loop-budget.row c.loop-budget.next c.copy.new.row c.next-row-in-loop-budget.new.next c.loop-budget.rounds c.loop-budget.invariant.1 other copied c.next-row-in-loop-budget.ensures),
+          (gone_on game (g.B.Board.formed board) (g.V.Vessel.top vessel) (g.V.Vessel.table vessel) (g.V.Vessel.keeps vessel) c.fill.new.buffer c.next_row.new.next
+          c.loop-budget.row c.loop-budget.next c.copy.new.row c.next_row-in-loop-budget.new.next c.loop-budget.rounds c.loop-budget.invariant.1 other copied c.next_row-in-loop-budget.ensures),
     )
 
 pub returns-then-rounds-budget : goal.returns-then-rounds-budget
@@ -46,7 +46,7 @@ returns-then-rounds-budget g c =
     let filled : Filled game.places 0 old c.fill.new.buffer = rw c.places-places.ensures at c.fill.ensures in
     let other : ¬ SameTo game.places row next = rw c.places-places.ensures at c.loop-budget-test.ensures in
     let run : Running game formed top t keeps old spare row next c.loop-budget.rounds =
-    rebased game formed top t keeps old spare c.fill.new.buffer c.next-row.new.next row next c.loop-budget.rounds filled c.next-row.ensures c.loop-budget.invariant.1 in
+    rebased game formed top t keeps old spare c.fill.new.buffer c.next_row.new.next row next c.loop-budget.rounds filled c.next_row.ensures c.loop-budget.invariant.1 in
     let ended : Running game formed top t keeps old spare row next c.args.budget = subst (λ (j : ℕ). Running game formed top t keeps old spare row next j) c.if-rounds-budget.true run in
     let sizes : (length row ≡ length old) × (length next ≡ length spare) = (search rules, search rules) in
     record {
@@ -80,7 +80,7 @@ returns g c =
     let filled : Filled game.places 0 old c.fill.new.buffer = rw c.places-places.ensures at c.fill.ensures in
     let same : SameTo game.places row next = rw c.places-places.ensures at c.loop-budget-test.ensures in
     let run : Running game formed top t keeps old spare row next rounds =
-    rebased game formed top t keeps old spare c.fill.new.buffer c.next-row.new.next row next rounds filled c.next-row.ensures c.loop-budget.invariant.1 in
+    rebased game formed top t keeps old spare c.fill.new.buffer c.next_row.new.next row next rounds filled c.next_row.ensures c.loop-budget.invariant.1 in
     let sizes : (length row ≡ length old) × (length next ≡ length spare) = (search rules, search rules) in
     let good : HoldsLeastGood game t row = repeated_least game formed top t keeps old spare row next rounds run sizes same in
     let parted : GoodFrom game top t row = repeated_parts game formed top t keeps old spare row next rounds run sizes same in

@@ -7,7 +7,7 @@ use Rattle.solver.proofs.rows.next_entry.Goals as goal
 pub unreachable-requires : goal.unreachable-requires
 unreachable-requires g c =
     let board = c.args.board.now in
-    owner_there (g.B.Board.game board) (g.B.Board.formed board) c.args.place c.requires.0 (sym c.owner.ensures ∙ c.in-default.is)
+    owner_there (g.B.Board.game board) (g.B.Board.formed board) c.args.place c.requires.0 (sym c.owner.ensures ∙ c.in_default.is)
 
 pub returns-in-Ours : goal.returns-in-Ours
 returns-in-Ours g c =

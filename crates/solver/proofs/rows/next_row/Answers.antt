@@ -12,6 +12,6 @@ loop-place-preserved g c =
     let room : n < length next = omega arith in
     let inv = c.loop-place.invariant in
     record {
-      front = below_more _ n (λ k h. rw (get_or-set_other next n k c.next-entry.result 0 (omega arith)) (inv.front k h)) (rw (get_or-set_same next n c.next-entry.result 0 room) c.next-entry.ensures);
-      rest = λ k h. get_or-set_other next n k c.next-entry.result 0 (omega arith) ∙ inv.rest k (omega arith);
+      front = below_more _ n (λ k h. rw (get_or-set_other next n k c.next_entry.result 0 (omega arith)) (inv.front k h)) (rw (get_or-set_same next n c.next_entry.result 0 room) c.next_entry.ensures);
+      rest = λ k h. get_or-set_other next n k c.next_entry.result 0 (omega arith) ∙ inv.rest k (omega arith);
     }

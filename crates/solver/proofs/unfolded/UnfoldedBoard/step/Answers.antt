@@ -48,7 +48,7 @@ returns-in-Some-pour g c =
     let top = g.V.Vessel.top u.vessel.now in
     let t = g.V.Vessel.table u.vessel.now in
     let e = c.in-Some.edge in
-    let inside : c.args.place < fill_count game top = omega (arith, c.fill-count-spill.ensures) in
+    let inside : c.args.place < fill_count game top = omega (arith, c.fill_count-spill.ensures) in
     let some : step_at (game.at (c.args.place / (top + 1))) c.args.mv ≡ Some e = rw c.top-width.ensures at (sym c.step.ensures ∙ c.in-Some.is) in
     let f : SFits w32 e.amount = search rules in
     let poured : c.pour.result ≡ t (c.args.place % (c.top-width.result + 1)) e.amount = simp to_z-of_z at c.pour.ensures in
@@ -64,11 +64,11 @@ returns-in-None g c =
     let top = g.V.Vessel.top u.vessel.now in
     let t = g.V.Vessel.table u.vessel.now in
     let e = c.in-Some.edge in
-    let inside : c.args.place < fill_count game top = omega (arith, c.fill-count-spill.ensures) in
+    let inside : c.args.place < fill_count game top = omega (arith, c.fill_count-spill.ensures) in
     let some : step_at (game.at (c.args.place / (top + 1))) c.args.mv ≡ Some e = rw c.top-width.ensures at (sym c.step.ensures ∙ c.in-Some.is) in
     let f : SFits w32 e.amount = search rules in
     let poured : c.pour.result ≡ t (c.args.place % (c.top-width.result + 1)) e.amount = simp to_z-of_z at c.pour.ensures in
     let same : t (c.args.place % (top + 1)) e.amount ≡ None = rw c.top-width.ensures at (sym poured ∙ c.in-None.is) in
-    let number : c.fill-count-spill.result ≡ landing game top e.target (t (c.args.place % (top + 1)) e.amount) =
-    c.fill-count-spill.ensures ∙ (small_spill game top t (within_fills game top t c.args.place inside).0 ∙ sym (ap (landing game top e.target) same)) in
+    let number : c.fill_count-spill.result ≡ landing game top e.target (t (c.args.place % (top + 1)) e.amount) =
+    c.fill_count-spill.ensures ∙ (small_spill game top t (within_fills game top t c.args.place inside).0 ∙ sym (ap (landing game top e.target) same)) in
     ap (λ (n : ℕ). Some (led n)) number ∙ step_fill game top t c.args.place c.args.mv e inside some
