@@ -5,7 +5,7 @@ use Rattle.gauge.specs.Gauge.{most_height}
 use Rattle.gauge.proofs.litres_at.Goals as goal
 
 -- the cube of a height is at most that of the greatest
-pub overflow-mul-result-2 : goal.overflow-mul-result-2
-overflow-mul-result-2 c =
+pub overflow_mul-result-2 : goal.overflow_mul-result-2
+overflow_mul-result-2 c =
     let h = c.args.h in
     omega (arith, mul-le (h * h) h (most_height * most_height) most_height (mul-le h h most_height most_height c.requires c.requires) c.requires)

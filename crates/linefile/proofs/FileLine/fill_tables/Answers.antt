@@ -44,6 +44,6 @@ returns c =
     record {
       places = p;
       moves = m;
-      again = writes_again bs c.accepts-just-the-written.ensures c.args.self.now.accepted (retabled l c.fill.new.table c.fill-2.new.table)
+      again = writes_again bs c.accepts_just_the_written.ensures c.args.self.now.accepted (retabled l c.fill.new.table c.fill-2.new.table)
           (same_records l c.fill.new.table c.fill-2.new.table _ _ p m);
     }

@@ -7,8 +7,8 @@ use Rattle.lineformat.proofs.Encoded.{names_few}
 use Rattle.lineformat.proofs.Sound.{in_letters, name_in}
 use Rattle.linefile.proofs.FileLine.name_span.Goals as goal
 
-pub overflow-add-result : goal.overflow-add-result
-overflow-add-result c =
+pub overflow_add-result : goal.overflow_add-result
+overflow_add-result c =
     let bs = c.args.self.now.bytes.now in
     let e = c.trailed-records.ensures in
     let n = c.places.ensures ∙ ap (λ x. length (line_of x).places) e in

@@ -11,7 +11,7 @@ use Rattle.linefile.proofs.FileLine.numbers.Goals as goal
 pub returns : goal.returns
 returns c =
     let bs = c.args.self.now.bytes.now in
-    let e = c.numbers-in.ensures ∙ numbers_are bs in
+    let e = c.numbers_in.ensures ∙ numbers_are bs in
     let s = c.formed.ensures.numbers in
     record {
       value = e;

@@ -2,5 +2,5 @@
 use Rattle.lineformat.proofs.Sound.{accepted_passes}
 use Rattle.linefile.proofs.FileLine.trailed.Goals as goal
 
-pub invariant-of-result : goal.invariant-of-result
-invariant-of-result c = (accepted_passes c.args.self.now.bytes.now c.args.self.now.accepted, tt)
+pub invariant_of-result : goal.invariant_of-result
+invariant_of-result c = record { sound = accepted_passes c.args.self.now.bytes.now c.args.self.now.accepted }

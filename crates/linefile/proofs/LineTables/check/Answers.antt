@@ -23,28 +23,28 @@ passed_of : (l : Line) (room : ℕ) (r : Result ℕ Fault) → r ≡ refuse (wri
 passed_of l room (Ok n) e h = accepted_passes (write_checks l room) (length (encode l)) n e
 passed_of l room (Err f) e h = absurd (false≢true h)
 
-pub returns-in-err-check-line : goal.returns-in-err-check-line
+pub returns-in_err-check_line : goal.returns-in_err-check_line
 unfolding write_checks
-returns-in-err-check-line c =
+returns-in_err-check_line c =
     let l = line_in c.args.self.now in
     let n = numbers_of l in
-    let f = c.in-err-check-line.field-0.0 in
-    let a : c.from-residual.result ≡ refuse (write_checks l c.args.room) (length (encode l)) = handed_on c.from-residual.result f c.from-residual.ensures.1
-    ∙ first_refuses (number_checks n n ++ record_checks l) (room_checks l c.args.room) (length (encode l)) f c.in-err-check-line.ensures in
-    record { passed = passed_of l c.args.room c.from-residual.result a; answer = a }
+    let f = c.in_err-check_line.field-0.0 in
+    let a : c.from_residual.result ≡ refuse (write_checks l c.args.room) (length (encode l)) = handed_on c.from_residual.result f c.from_residual.ensures.1
+    ∙ first_refuses (number_checks n n ++ record_checks l) (room_checks l c.args.room) (length (encode l)) f c.in_err-check_line.ensures in
+    record { passed = passed_of l c.args.room c.from_residual.result a; answer = a }
 
-pub returns-in-err-pass : goal.returns-in-err-pass
+pub returns-in_err-pass : goal.returns-in_err-pass
 unfolding write_checks
-returns-in-err-pass c =
+returns-in_err-pass c =
     let l = line_in c.args.self.now in
     let n = numbers_of l in
     let R = room_checks l c.args.room in
-    let r = room_check l c.args.room c.size-size.result c.new.result c.size-size.ensures.size-is c.new.ensures in
-    let f = c.in-err-pass.field-0.0 in
-    let a : c.from-residual-in-err-pass.result ≡ refuse (write_checks l c.args.room) (length (encode l)) = handed_on c.from-residual-in-err-pass.result f c.from-residual-in-err-pass.ensures.1
-    ∙ sym (decline R (length (encode l)) f (c.in-err-pass.ensures ∙ ap verdict r))
-    ∙ second_decides (number_checks n n ++ record_checks l) R (length (encode l)) c.in-ok-check-line.field-0 c.in-ok-check-line.ensures in
-    record { passed = passed_of l c.args.room c.from-residual-in-err-pass.result a; answer = a }
+    let r = room_check l c.args.room c.size-size.result c.new.result c.size-size.ensures.size_is c.new.ensures in
+    let f = c.in_err-pass.field-0.0 in
+    let a : c.from_residual-in_err-pass.result ≡ refuse (write_checks l c.args.room) (length (encode l)) = handed_on c.from_residual-in_err-pass.result f c.from_residual-in_err-pass.ensures.1
+    ∙ sym (decline R (length (encode l)) f (c.in_err-pass.ensures ∙ ap verdict r))
+    ∙ second_decides (number_checks n n ++ record_checks l) R (length (encode l)) c.in_ok-check_line.field-0 c.in_ok-check_line.ensures in
+    record { passed = passed_of l c.args.room c.from_residual-in_err-pass.result a; answer = a }
 
 pub returns : goal.returns
 unfolding write_checks
@@ -52,8 +52,8 @@ returns c =
     let l = line_in c.args.self.now in
     let n = numbers_of l in
     let R = room_checks l c.args.room in
-    let r = room_check l c.args.room c.size-size.result c.new.result c.size-size.ensures.size-is c.new.ensures in
-    let a : (Ok c.size-size.result) ≡ refuse (write_checks l c.args.room) (length (encode l)) = ap Ok c.size-size.ensures.size-is
-    ∙ sym (accept R (length (encode l)) c.in-ok-pass.field-0 (c.in-ok-pass.ensures ∙ ap verdict r))
-    ∙ second_decides (number_checks n n ++ record_checks l) R (length (encode l)) c.in-ok-check-line.field-0 c.in-ok-check-line.ensures in
+    let r = room_check l c.args.room c.size-size.result c.new.result c.size-size.ensures.size_is c.new.ensures in
+    let a : (Ok c.size-size.result) ≡ refuse (write_checks l c.args.room) (length (encode l)) = ap Ok c.size-size.ensures.size_is
+    ∙ sym (accept R (length (encode l)) c.in_ok-pass.field-0 (c.in_ok-pass.ensures ∙ ap verdict r))
+    ∙ second_decides (number_checks n n ++ record_checks l) R (length (encode l)) c.in_ok-check_line.field-0 c.in_ok-check_line.ensures in
     record { passed = passed_of l c.args.room (Ok c.size-size.result) a; answer = a }

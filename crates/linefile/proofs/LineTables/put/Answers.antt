@@ -39,6 +39,6 @@ four_parts l o s1 s2 s3 s4 tb m p t em ep et eb e1 e2 e3 e4 =
 pub returns : goal.returns
 returns c =
     let l = line_in c.args.self.now in
-    four_parts l c.args.out.now c.put.new.out c.put-all.new.out c.put-all-2.new.out c.put-2.new.out c.trailer.result
+    four_parts l c.args.out.now c.put.new.out c.put_all.new.out c.put_all-2.new.out c.put-2.new.out c.trailer.result
     (length l.names) (length l.names + length l.moves * 4) (length l.names + length l.moves * 4 + length l.places * 4)
-    refl refl refl c.trailer.ensures c.put.ensures c.put-all.ensures c.put-all-2.ensures c.put-2.ensures
+    refl refl refl c.trailer.ensures c.put.ensures c.put_all.ensures c.put_all-2.ensures c.put-2.ensures

@@ -14,8 +14,8 @@ returns c =
     let cp = count_places bs in
     let cm = count_moves bs in
     let cn = count_names bs in
-    let wn = c.two-at-places.ensures in
-    let wm = c.two-at-moves.ensures in
+    let wn = c.two_at-places.ensures in
+    let wm = c.two_at-moves.ensures in
     record {
       count_places = wn ∙ sym cp;
       count_moves = wm ∙ sym cm;

@@ -6,6 +6,6 @@ use Rattle.linefile.proofs.bytes.fill.Goals as goal
 pub loop-i-preserved : goal.loop-i-preserved
 loop-i-preserved g c =
     let e1 = c.loop-i.invariant in
-    let e2 = c.read-at.ensures in
+    let e2 = c.read_at.ensures in
     let s = fill_step (λ i. g.R.Record.at c.args.file.now (c.args.from + i * 4)) c.args.table.now c.loop-i.i (omega arith) in
     cc

@@ -14,8 +14,8 @@ loop-i-preserved g c =
     let B = g.R.Record.bytes in
     let x = c.index-table-i.result in
     let e1 = c.put.ensures in
-    let e2 : c.to-bytes.result ≡ B (get_or c.args.table.now c.loop-i.i x) = c.to-bytes.ensures ∙ ap B c.index-table-i.is in
-    let e3 : length c.to-bytes.result ≡ 4 = ap length c.to-bytes.ensures ∙ g.R.Record.four x in
+    let e2 : c.to_bytes.result ≡ B (get_or c.args.table.now c.loop-i.i x) = c.to_bytes.ensures ∙ ap B c.index-table-i.is in
+    let e3 : length c.to_bytes.result ≡ 4 = ap length c.to_bytes.ensures ∙ g.R.Record.four x in
     let s = put_step B g.R.Record.four c.args.out.now c.args.from c.args.table.now c.loop-i.i (c.args.from + c.loop-i.i * 4) x
     c.loop-i-test.true (omega arith) refl c.loop-i.out c.loop-i.invariant in
     cc

@@ -15,8 +15,8 @@ one_more f table n x inside e below q h =
     ⊎_elim (λ l. get_or-set_other table n q x 0 (λ z. omega arith) ∙ below q l)
     (λ l. let z : q ≡ n = omega arith in ap (λ k. get_or (set table n x) k 0) z ∙ get_or-set_same table n x 0 inside ∙ e ∙ ap f (sym z)) (cases_lt q n)
 
-pub overflow-add-moves : goal.overflow-add-moves
-overflow-add-moves g c =
+pub overflow_add-moves : goal.overflow_add-moves
+overflow_add-moves g c =
     let l = g.R.Records.line c.args.records.now in
     let e = ap (λ (x : PlaceRecord). x.moves) c.place-moves.ensures in
     let m = c.loop-p.invariant.0 in

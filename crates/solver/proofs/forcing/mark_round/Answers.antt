@@ -21,7 +21,7 @@ loop-place-preserved g c =
     elim c.if-marks-place.branch [
       | then-marks-place+then-can_force w ↦ simp (w.marks-is, w.fresh-is) (round_set game formed old round small fits n new fresh c.loop-place.invariant room w.if-marks-place.true w.if-can_force.ensures)
       | else-marks-place w ↦ simp (w.marks-is, w.fresh-is) (elim w.else-marks-place.branch [
-        | else-marks-place-via-then-marks-place+else-can_force w' ↦ round_not game formed old round small fits n new fresh c.loop-place.invariant w'.if-marks-place.true w'.if-can-force.ensures
+        | else-marks-place-via-then-marks-place+else-can_force w' ↦ round_not game formed old round small fits n new fresh c.loop-place.invariant w'.if-marks-place.true w'.if-can_force.ensures
         | else-marks-place-via-else-marks-place w' ↦ round_old game formed old round small fits n new fresh c.loop-place.invariant (let no = w'.if-marks-place.false in omega arith)
       ])
     ]

@@ -11,8 +11,8 @@ use Rattle.solver.proofs.Entries.{entry_back}
 use Rattle.solver.proofs.Following.{asked, passed_not, passed_further, needs_no_more, always_served, refused_answer, refused_served, unserved_answer, planned_runs_are_poured}
 use Rattle.solver.proofs.planning.plan.Goals as goal
 
-pub returns-in-err-pass : goal.returns-in-err-pass
-returns-in-err-pass g c =
+pub returns-in_err-pass : goal.returns-in_err-pass
+returns-in_err-pass g c =
     let board = c.args.board.now in
     let v = c.args.vessel.now in
     let game = g.B.Board.game board in
@@ -20,12 +20,12 @@ returns-in-err-pass g c =
     let top = g.V.Vessel.top v in
     let t = g.V.Vessel.table v in
     let row = c.args.row.now in
-    let e = c.in-err-pass.field-0.0 in
+    let e = c.in_err-pass.field-0.0 in
     let h : verdict (asked game (length row) c.args.place) ≡ Err e = search rules in
-    let is : c.from-residual.result ≡ Err e = search rules in
+    let is : c.from_residual.result ≡ Err e = search rules in
     record {
-      answer = refused_answer game formed top t row c.args.place c.from-residual.result e is h;
-      served = refused_served game formed top t row c.args.place c.from-residual.result e h;
+      answer = refused_answer game formed top t row c.args.place c.from_residual.result e is h;
+      served = refused_served game formed top t row c.args.place c.from_residual.result e h;
       runs = planned_runs_are_poured game formed top t (g.V.Vessel.keeps v) row;
     }
 
@@ -60,7 +60,7 @@ returns-then-needed-entry g c =
     let e = c.move_at-edge.result in
     let f : SFits w32 e.amount = search rules in
     let served : Parts top (Serves t row e) c.needed.result = simp to_z-of_z at c.needed.ensures in
-    let number : get_or row p 0 < never = omega (arith, c.type-inv.row p) in
+    let number : get_or row p 0 < never = omega (arith, c.type_inv.row p) in
     let is = c.move_at-edge.ensures.answered in
     record {
       answer = (

@@ -7,4 +7,4 @@ use Rattle.linefile.proofs.records.Parts.place.Goals as goal
 pub returns : goal.returns
 returns c =
     let bs = c.args.file.now in
-    c.read-at.ensures ∙ ap (λ x. place_at bs (x + c.args.p * 4)) c.requires.parts.first_is ∙ sym (one_place bs c.args.p c.requires.inside)
+    c.read_at.ensures ∙ ap (λ x. place_at bs (x + c.args.p * 4)) c.requires.parts.first_is ∙ sym (one_place bs c.args.p c.requires.inside)

@@ -7,4 +7,4 @@ use Rattle.linefile.proofs.records.Parts.step.Goals as goal
 pub returns : goal.returns
 returns c =
     let bs = c.args.file.now in
-    c.read-at.ensures ∙ ap (λ x. move_at bs (x + c.args.m * 4)) c.requires.parts.names_end ∙ sym (one_move bs c.args.m c.requires.inside)
+    c.read_at.ensures ∙ ap (λ x. move_at bs (x + c.args.m * 4)) c.requires.parts.names_end ∙ sym (one_move bs c.args.m c.requires.inside)

@@ -13,23 +13,23 @@ use Rattle.solver.proofs.unfolded.UnfoldedBoard.step.Goals as goal
 abbrev led : ℕ → Edge
 led n = record { target = n; amount = pos 0 }
 
-pub returns-in-default : goal.returns-in-default
-returns-in-default g c =
+pub returns-in_default : goal.returns-in_default
+returns-in_default g c =
     let u = c.args.self.now in
     let game = g.B.Board.game u.board.now in
     let top = g.V.Vessel.top u.vessel.now in
-    let inside : c.args.place < fill_count game top = omega (arith, c.fill-count-spill.ensures) in
-    let none : step_at (game.at (c.args.place / (top + 1))) c.args.mv ≡ None = rw c.top-width.ensures at (sym c.step.ensures ∙ c.in-default.is) in
+    let inside : c.args.place < fill_count game top = omega (arith, c.fill_count-spill.ensures) in
+    let none : step_at (game.at (c.args.place / (top + 1))) c.args.mv ≡ None = rw c.top-width.ensures at (sym c.step.ensures ∙ c.in_default.is) in
     step_no_fill game top (g.V.Vessel.table u.vessel.now) c.args.place c.args.mv inside none
 
-pub overflow-add-target : goal.overflow-add-target
-overflow-add-target g c =
+pub overflow_add-target : goal.overflow_add-target
+overflow_add-target g c =
     let u = c.args.self.now in
     let game = g.B.Board.game u.board.now in
     let top = g.V.Vessel.top u.vessel.now in
     let t = g.V.Vessel.table u.vessel.now in
     let v = g.V.Vessel.keeps u.vessel.now in
-    let inside : c.args.place < fill_count game top = omega (arith, c.fill-count-spill.ensures) in
+    let inside : c.args.place < fill_count game top = omega (arith, c.fill_count-spill.ensures) in
     let small = within_fills game top t c.args.place inside in
     let target = step_inside game (g.B.Board.formed u.board.now) (c.args.place / (c.top-width.result + 1)) c.args.mv c.in-Some.edge (sym c.step.ensures ∙ c.in-Some.is) in
     let f : SFits w32 c.in-Some.edge.amount = search rules in
@@ -38,8 +38,8 @@ overflow-add-target g c =
     let number = number_of game top t c.in-Some.edge.target c.in-Some-pour.level target level in
     rw c.top-width.ensures (omega arith)
 
-pub overflow-mul-target : goal.overflow-mul-target
-overflow-mul-target g c = let sum = overflow-add-target g c in omega arith
+pub overflow_mul-target : goal.overflow_mul-target
+overflow_mul-target g c = let sum = overflow_add-target g c in omega arith
 
 pub returns-in-Some-pour : goal.returns-in-Some-pour
 returns-in-Some-pour g c =
