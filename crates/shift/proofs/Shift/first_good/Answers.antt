@@ -8,8 +8,8 @@ use Rattle.shift.proofs.Search.{passed_more, some_found, none_found}
 use Rattle.shift.proofs.Ordered.{asked, decided, few}
 use Rattle.shift.proofs.Shift.first_good.Goals as goal
 
-pub returns-in-default : goal.returns-in-default
-returns-in-default g c =
+pub returns-in_default : goal.returns-in_default
+returns-in_default g c =
     let game = g.B.Board.game c.args.board.now in
     let top = g.V.Vessel.top c.args.vessel.now in
     let t = g.V.Vessel.table c.args.vessel.now in
@@ -17,12 +17,12 @@ returns-in-default g c =
     let s = c.args.self.now in
     let at = game.at s.place in
     let is : step_at at c.loop-edge.m ≡ None = cc in
-    let u = c.in-ok-pass.field-0 in
+    let u = c.in_ok-pass.field-0 in
     let passed : Ok u ≡ verdict (asked game top t marks s) = search rules in
     (decided game top t marks s u passed false (none_found (pours_good top t marks s.level) at c.loop-edge.m c.loop-edge.invariant is), tt)
 
-pub overflow-add-m : goal.overflow-add-m
-overflow-add-m g c =
+pub overflow_add-m : goal.overflow_add-m
+overflow_add-m g c =
     let game = g.B.Board.game c.args.board.now in
     let p = c.args.self.now.place in
     let is : step_at (game.at p) c.loop-edge.m ≡ Some c.in-Some.edge = cc in
@@ -55,7 +55,7 @@ returns g c =
     let test = pours_good top t marks s.level in
     let is : step_at at c.loop-edge.m ≡ Some c.in-Some.edge = cc in
     let good : test c.in-Some.edge ≡ true = cc in
-    let u = c.in-ok-pass.field-0 in
+    let u = c.in_ok-pass.field-0 in
     let passed : Ok u ≡ verdict (asked game top t marks s) = search rules in (
       decided game top t marks s u passed true (some_found test at c.loop-edge.m c.in-Some.edge is good),
       record { move = c.in-Some.edge; is_move = is; good = good; first = c.loop-edge.invariant },
