@@ -42,7 +42,7 @@ fn print_place(rt: &HostRuntime, line: &FileLine, p: u32, fills: &[u32]) -> io::
 
 // One line for each place, whose fills lie one after another in the marks.
 fn print_places(rt: &HostRuntime, line: &FileLine, levels: usize, marks: &[u32]) -> io::Result<()> {
-    for p in 0..FileLineBoard::places(line) {
+    for p in 0..Board::places(line) {
         let from = (p as usize).saturating_mul(levels);
         let end = from.saturating_add(levels);
         if end <= marks.len() {
@@ -54,7 +54,7 @@ fn print_places(rt: &HostRuntime, line: &FileLine, levels: usize, marks: &[u32])
 
 fn print_marks<'x>(rt: &HostRuntime, line: &'x FileLine, vessel: &'x AnyVessel) -> io::Result<()> {
     let levels = vessel.top() as u64 + 1;
-    let fills = (<FileLine<'_> as Board>::places(line) as u64 * levels).min(MOST_FILLS);
+    let fills = (Board::places(line) as u64 * levels).min(MOST_FILLS);
     let mut marks = vec![in rt.alloc(); 0u32; fills as usize + 1]?;
     match mark(line, vessel, &mut marks) {
         Err(fault) => println!(rt; "{fault}"),

@@ -40,7 +40,7 @@ impl<'x> Outlook<'x> {
     fn count(&self, place: u32) -> u32
         ensures { result ≡ count_at ((game_in self.now).at place) }
     {
-        match <linefile::FileLine<'_> as Board>::moves(self.line, place) {
+        match Board::moves(self.line, place) {
             Some(count) => count,
             None => 0,
         }
@@ -51,7 +51,7 @@ impl<'x> Outlook<'x> {
         requires { mv < count_at ((game_in self.now).at place) }
         ensures { MatchOption result (Refused self.now place mv level) (λ to. Leads self.now place mv level to.0 to.1) }
     {
-        let Some(edge) = <linefile::FileLine<'_> as Board>::step(self.line, place, mv) else {
+        let Some(edge) = Board::step(self.line, place, mv) else {
             unreachable()
         };
         match self.vessel.pour(level, edge.amount) {
@@ -91,7 +91,7 @@ impl<'x> Outlook<'x> {
 
     // Asks about these moves first, and answers one that settles the question of the place.
     // Over ordered levels what is then remembered answers for all other moves to the same places.
-    #[cycle(ask_ask_first_every_move_holds_leads_on_some_move)]
+    #[cycle(asking)]
     fn ask_first(
         &self,
         known: &mut [Remembered],
@@ -107,7 +107,7 @@ impl<'x> Outlook<'x> {
             return None;
         }
         let firsts = self.first_moves(place, level, ours);
-        for target in 0..FileLineBoard::places(self.line) {
+        for target in 0..Board::places(self.line) {
             let i = target as usize;
             if i < firsts.len() && firsts[i].level <= self.vessel.top() {
                 if self.holds(known, moves - 1, target, firsts[i].level) == ours {
@@ -119,7 +119,7 @@ impl<'x> Outlook<'x> {
     }
 
     // Whether a move of the place leads to a fill that holds for one move fewer.
-    #[cycle(ask_ask_first_every_move_holds_leads_on_some_move)]
+    #[cycle(asking)]
     fn leads_on(&self, known: &mut [Remembered], moves: u8, place: u32, mv: u32, level: u32) -> bool
         requires { (1 ≤ moves) × ((AllRight self.now known.old) × (mv < count_at ((game_in self.now).at place))) }
         ensures answer { Decides result (LeadsOn self.now moves place mv level) }
@@ -132,7 +132,7 @@ impl<'x> Outlook<'x> {
     }
 
     // Whether some move of the place leads on.
-    #[cycle(ask_ask_first_every_move_holds_leads_on_some_move)]
+    #[cycle(asking)]
     fn some_move(&self, known: &mut [Remembered], moves: u8, place: u32, level: u32) -> bool
         requires asked { (1 ≤ moves) × (AllRight self.now known.old) }
         requires ours { owner_at ((game_in self.now).at place) ≡ Some Ours }
@@ -154,7 +154,7 @@ impl<'x> Outlook<'x> {
     }
 
     // Whether every move of the place leads on.
-    #[cycle(ask_ask_first_every_move_holds_leads_on_some_move)]
+    #[cycle(asking)]
     fn every_move(&self, known: &mut [Remembered], moves: u8, place: u32, level: u32) -> bool
         requires asked { (1 ≤ moves) × (AllRight self.now known.old) }
         requires theirs { owner_at ((game_in self.now).at place) ≡ Some Theirs }
@@ -176,13 +176,13 @@ impl<'x> Outlook<'x> {
     }
 
     // Puts the question of the place's owner, if it is not answered yet.
-    #[cycle(ask_ask_first_every_move_holds_leads_on_some_move)]
+    #[cycle(asking)]
     fn ask(&self, known: &mut [Remembered], moves: u8, place: u32, level: u32) -> bool
         requires { (1 ≤ moves) × ((AllRight self.now known.old) × (place < (game_in self.now).places)) }
         ensures answer { Decides result (HoldsIn self.now moves place level) }
         ensures known { AllRight self.now known.new }
     {
-        let Some(owner) = <linefile::FileLine<'_> as Board>::owner(self.line, place) else {
+        let Some(owner) = Board::owner(self.line, place) else {
             unreachable()
         };
         match owner {
@@ -192,7 +192,7 @@ impl<'x> Outlook<'x> {
     }
 
     // Whether the fill at the place holds for so many moves.
-    #[cycle(ask_ask_first_every_move_holds_leads_on_some_move)]
+    #[cycle(asking)]
     pub(crate) fn holds(&self, known: &mut [Remembered], moves: u8, place: u32, level: u32) -> bool
         requires { (AllRight self.now known.old) × ((place < (game_in self.now).places) × (level ≤ top_in self.now)) }
         ensures answer { Decides result (HoldsIn self.now moves place level) }

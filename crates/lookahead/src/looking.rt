@@ -25,7 +25,7 @@ fn check(line: &FileLine, place: u32, fill: u32, k: u32) -> Result<(), Fault>
 {
     pass(&[
         Check::new(
-            place >= <FileLine<'_> as Board>::places(line),
+            place >= Board::places(line),
             Refusal::NoSuchPlace,
             Layer::Rest,
             place as u64,
@@ -46,7 +46,7 @@ fn outlook<'x>(line: &'x FileLine<'x>) -> Outlook<'x>
     ensures vessel { (top_in result ≡ (held line.now).top) × (table_in result ≡ own_table (held line.now)) }
 {
     let vessel = line.vessel();
-    let places = <FileLine<'_> as Board>::places(line);
+    let places = Board::places(line);
     let apart = if is_ordered(vessel) {
         2
     } else {

@@ -54,7 +54,7 @@ fn print_planned<V: Graded>(
     vessel: &V,
     row: &[u32],
 ) -> io::Result<()> {
-    for place in 0..FileLineBoard::places(line) {
+    for place in 0..Board::places(line) {
         if let (Some(owner), Some(entry)) = (line.owner(place), row.get(place as usize)) {
             print_row(
                 rt,
@@ -70,7 +70,7 @@ fn print_planned<V: Graded>(
 }
 
 fn graded_sheet<V: Graded>(rt: &HostRuntime, line: &FileLine, vessel: &V) -> io::Result<()> {
-    let places = <FileLine<'_> as Board>::places(line);
+    let places = Board::places(line);
     let budget = places as u64 * (vessel.top() as u64 + 1);
     let mut row = vec![in rt.alloc(); 0u32; places as usize]?;
     let mut next = vec![in rt.alloc(); 0u32; places as usize]?;
@@ -90,7 +90,7 @@ fn print_ordered(
     vessel: &Closed,
     marks: &[u32],
 ) -> io::Result<()> {
-    for place in 0..FileLineBoard::places(line) {
+    for place in 0..Board::places(line) {
         let fill = least_marked_good(marks, vessel.top(), place);
         let mv = match fill {
             Some(level) => ordered_move(line, vessel, marks, place, level),

@@ -75,7 +75,7 @@ fn print_place<'x>(
 }
 
 fn print_line<'x>(rt: &HostRuntime, line: &'x FileLine, vessel: &'x AnyVessel) -> io::Result<()> {
-    let places = <FileLine<'_> as hopper::Board>::places(line);
+    let places = Board::places(line);
     let fills = (places as u64 * (line.top() as u64 + 1)).min(MOST_FILLS);
     let mut marks = vec![in rt.alloc(); 0u32; fills as usize + 1]?;
     match mark(line, vessel, &mut marks) {

@@ -161,7 +161,7 @@ fn run_calls<'x>(
 // Marks the fills of the line, and runs the calls on them.
 fn mark_and_run<'x>(rt: &HostRuntime, line: &'x FileLine, vessel: &'x AnyVessel) -> io::Result<()> {
     let levels = vessel.top() as u64 + 1;
-    let fills = (<FileLine<'_> as hopper::Board>::places(line) as u64 * levels).min(MOST_FILLS);
+    let fills = (Board::places(line) as u64 * levels).min(MOST_FILLS);
     let mut marks = vec![in rt.alloc(); 0u32; fills as usize + 1]?;
     match mark(line, vessel, &mut marks) {
         Err(fault) => println!(rt; "{fault}"),

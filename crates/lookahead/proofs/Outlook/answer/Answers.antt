@@ -7,5 +7,5 @@ use Rattle.lookahead.proofs.Outlook.answer.Goals as goal
 pub holds-requires : goal.holds-requires
 holds-requires c =
     let o = c.args.self.now in
-    let items = c.deref-mut.ensures.value ∙ c.in-Ok.ensures.exact (λ y e. e) in
+    let items = c.deref_mut.ensures.value ∙ c.in-Ok.ensures.items_if_clones_equal (λ y e. e) in
     (subst (AllRight o) (sym items) (nothing_is_right o (c.args.self.now.slots * 7)), c.requires)

@@ -15,7 +15,7 @@ returns-then-reach-level c = λ e.
     let k = c.args.moves in
     let d = c.args.level in
     let top = c.in-OfClosed.closed.top in
-    let below = leb-true d c.saturating-sub.result e in
+    let below = leb-true d c.saturating_sub.result e in
     let low : k * most_amount ≤ d = omega (arith, c.if-reach-level.true, c.from.ensures) in
-    let high : d + k * most_amount ≤ top = omega (arith, below, c.saturating-sub.ensures, c.top.ensures, c.from.ensures, c.if-reach-level.true) in
+    let high : d + k * most_amount ≤ top = omega (arith, below, c.saturating_sub.ensures, c.top.ensures, c.from.ensures, c.if-reach-level.true) in
     subst (λ (v : AnyVessel). Holds (game_in o) (any_table v) k c.args.place d) (sym c.in-OfClosed.is) (far_holds (game_in o) (formed o) top k c.args.place d c.requires low high)

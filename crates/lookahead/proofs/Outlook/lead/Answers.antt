@@ -10,7 +10,7 @@ use Rattle.lookahead.proofs.Outlook.lead.Goals as goal
 pub unreachable-requires : goal.unreachable-requires
 unreachable-requires c =
     let o = c.args.self.now in
-    step_there ((game_in o).at c.args.place) c.args.mv c.requires (sym c.step.ensures ∙ c.in-default.is)
+    step_there ((game_in o).at c.args.place) c.args.mv c.requires (sym c.step.ensures ∙ c.in_default.is)
 
 pub returns-in-Some-pour : goal.returns-in-Some-pour
 returns-in-Some-pour c =

@@ -11,7 +11,7 @@ returns-then-moves-known c = λ e.
     let k = c.args.moves in
     let d = c.args.level in
     subst (λ (p : ℕ). Decides a.held (HoldsIn o k p d)) c.if-known-place.false
-    (settles_held o a k d c.requires.0 c.if-known.true c.if-moves-known.true c.requires.1 (c.holds-higher.ensures e))
+    (settles_held o a k d c.requires.0 c.if-known.true c.if-moves-known.true c.requires.1 (c.holds_higher.ensures e))
 
 pub returns-then-known-moves : goal.returns-then-known-moves
 returns-then-known-moves c = λ e.
@@ -20,4 +20,4 @@ returns-then-known-moves c = λ e.
     let k = c.args.moves in
     let d = c.args.level in
     subst (λ (p : ℕ). Decides a.held (HoldsIn o k p d)) c.if-known-place.false
-    (settles_beaten o a k d c.requires.0 c.if-known.false c.if-known-moves.true (c.holds-higher-then-known-moves.ensures e))
+    (settles_beaten o a k d c.requires.0 c.if-known.false c.if-known-moves.true (c.holds_higher-then-known-moves.ensures e))
