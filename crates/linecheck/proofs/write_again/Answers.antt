@@ -12,14 +12,14 @@ use Rattle.lineformat.proofs.Sound.{tables_fit}
 use Rattle.linefile.specs.Held.{file_of, held, retabled}
 use Rattle.linecheck.proofs.write_again.Goals as goal
 
-pub slice-bounds-tables-end : goal.slice-bounds-tables-end
-slice-bounds-tables-end c =
+pub slice_bounds-tables-end : goal.slice_bounds-tables-end
+slice_bounds-tables-end c =
     let f = tables_fit (held c.args.line.now) (length c.args.places.now) (length c.args.moves.now) (ap is_ok (sym c.in-Ok.ensures.answer)) in
     let n = c.places-n.ensures in
     search rules
 
-pub slice-bounds-tables-end-in-Ok : goal.slice-bounds-tables-end-in-Ok
-slice-bounds-tables-end-in-Ok c =
+pub slice_bounds-tables-end-in-Ok : goal.slice_bounds-tables-end-in-Ok
+slice_bounds-tables-end-in-Ok c =
     let f = tables_fit (held c.args.line.now) (length c.args.places.now) (length c.args.moves.now) (ap is_ok (sym c.in-Ok.ensures.answer)) in
     let m = c.moves-m.ensures in
     search rules
