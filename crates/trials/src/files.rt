@@ -187,8 +187,8 @@ fn names_are_parts_of_the_file(rt: HostRuntime) -> Result<(), Fail> {
     line.read(PIT)?;
     let press = line.name(1).ok_or("no place")?;
     assert_eq!(rt; press.offset, 3);
-    assert!(rt; press.letters == b"press");
-    assert!(rt; line.names() == b"pitpress");
+    assert!(rt; press.letters == b"press".as_slice());
+    assert!(rt; line.names() == b"pitpress".as_slice());
     assert!(rt; line.name(2).is_none());
     Ok(())
 }
