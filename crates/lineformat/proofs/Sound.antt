@@ -11,7 +11,7 @@ use Rattle.lineformat.specs.declared.PlaceRecord.{PlaceRecord}
 use Rattle.lineformat.specs.Limits.{longest_file, trailer_size, only_version, last_kind, last_owner, most_places, most_moves, most_amount, most_top, longest_name, first_letter, last_letter}
 use Rattle.lineformat.specs.Format.{Line, numbers_of, place_of, move_of, line_of, trailer, numbers_in, offsets_in, version_in, distance_in, places_in, moves_in}
 use Rattle.lineformat.specs.WellFormed.{moves_before, letters_before, moves_of, name_of, SoundNumbers, SoundPlace, SoundMove, WellFormedLine}
-use Rattle.lineformat.specs.Checks.{outside, unequal, bad_place, bad_move, is_bad, number_checks, record_checks, size_checks, version_checks, distance_checks, trailer_checks, read_checks, accepts, unpack_checks}
+use Rattle.lineformat.specs.Checks.{unequal, bad_place, bad_move, is_bad, number_checks, record_checks, size_checks, version_checks, distance_checks, trailer_checks, read_checks, accepts, unpack_checks}
 use Rattle.lineformat.proofs.Tests.{is_none, within, not_outside, equal_no, no_equal, draw_sound, draw_good}
 use Rattle.lineformat.proofs.Scan.{none_is_bad, none_found, sum_front}
 use Rattle.lineformat.proofs.Spelt.{count_places, count_moves, count_names, in_names, nth_part, NameIn}

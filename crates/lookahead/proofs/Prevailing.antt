@@ -1,10 +1,10 @@
 -- What a look-ahead begins with, and whom its answer tells to prevail.
-use Rattle.std.proofs.Common.{◌≡◌, ℕ, zero, suc, ◌<◌, Bool, true, false, leb, replicate, is_ok, Ok, Decides, sym, refl, ap, arith}
+use Rattle.std.proofs.Common.{◌≡◌, ℕ, zero, suc, ◌<◌, Bool, true, false, replicate, is_ok, Ok, Decides, sym, refl, ap, arith}
 use Rattle.std.proofs.lemmas.Bool.{leb-false, false≢true}
 use Rattle.game.specs.Fill.{Holds}
 use Rattle.game.specs.Game.{WellFormed}
 use Rattle.game.proofs.Force.{held_has_plan, not_held_is_forced}
-use Rattle.hopper.specs.Refusing.{verdict, passes}
+use Rattle.hopper.specs.Refusing.{verdict}
 use Rattle.hopper.proofs.Refusing.{none_fails}
 use Rattle.lineformat.specs.Format.{Line}
 use Rattle.lineformat.specs.Games.{game_of}

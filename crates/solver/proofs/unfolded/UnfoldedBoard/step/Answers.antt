@@ -2,7 +2,7 @@
 use Rattle.std.proofs.Common.{◌≡◌, ℕ, ◌+◌, ◌*◌, ◌/◌, ◌%◌, ◌<◌, ◌≤◌, pos, Some, None, sym, ap, ◌∙◌, arith, w32, SFits, rules}
 use Rattle.std.proofs.lemmas.Int.{to_z-of_z}
 use Rattle.game.specs.declared.Edge.{Edge}
-use Rattle.game.specs.Forced.{spill, landing}
+use Rattle.game.specs.Forced.{landing}
 use Rattle.hopper.specs.Boards.{step_at}
 use Rattle.hopper.proofs.Boards.{step_inside}
 use Rattle.solver.specs.Unfolding.{fill_count}
