@@ -1,6 +1,6 @@
 -- What an outlook is about, and the answers that it remembers.
 use Rattle.std.specs.Prelude.{ℕ, ◌≤◌, List, Decides}
-use Rattle.std.specs.List.{AllByRecursion as All}
+use Rattle.std.specs.List.{AllByRecursion}
 use Rattle.game.specs.Fill.{Holds}
 use Rattle.game.specs.Game.{Game}
 use Rattle.game.specs.Vessel.{Table}
@@ -36,4 +36,4 @@ Right o a = (a.level ≤ top_in o) × Decides a.held (HoldsIn o a.moves a.place 
 
 -- all answers that are remembered are right
 abbrev pub AllRight : Outlook → List Remembered → Type 0
-AllRight o known = All (Right o) known
+AllRight o known = AllByRecursion (Right o) known
