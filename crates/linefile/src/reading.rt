@@ -269,11 +269,11 @@ impl<'a> FileLine<'a> {
     }
 
     // The number in the file of move `m` of place `p`.
-    fn file_number(&self, at: Parts, p: usize, m: usize) -> Option<usize>
-        requires { PartsOf (file_of self.now) at.places at.moves at.trailer at.first at.names }
-        ensures { MatchOption result (slice_get (moves_of (held self.now) p) m ≡ None) (λ n. (slice_get (moves_of (held self.now) p) m ≡ Some (move_of (held self.now) n)) × (n < length (held self.now).moves)) }
+    fn file_number(&self, p: usize, m: usize) -> Option<usize>
+        ensures { MatchOption result (slice_get (moves_of (held self.now) p) m ≡ None) (λ n. slice_get (moves_of (held self.now) p) m ≡ slice_get (held self.now).moves n) }
     {
         self.formed();
+        let at = self.parts();
         if p >= at.places || m >= at.place(self.bytes, p).moves as usize {
             return None;
         }
@@ -284,9 +284,8 @@ impl<'a> FileLine<'a> {
     pub fn step_of(&self, p: usize, m: usize) -> Option<MoveRecord>
         ensures { result ≡ slice_get (moves_of (held self.now) p) m }
     {
-        let at = self.parts();
-        match self.file_number(at, p, m) {
-            Some(number) => Some(at.step(self.bytes, number)),
+        match self.file_number(p, m) {
+            Some(number) => self.step(number),
             None => None,
         }
     }

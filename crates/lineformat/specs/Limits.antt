@@ -1,6 +1,5 @@
 -- The limits of a line file.
 use Rattle.std.specs.Prelude.{ℕ}
-pub use Rattle.game.specs.Limits.{most_amount, most_top, most_draw}
 
 -- the bytes of the longest file, and of the trailer that ends each
 abbrev pub longest_file : ℕ
@@ -30,6 +29,16 @@ most_places = 256
 -- of all places together
 abbrev pub most_moves : ℕ
 most_moves = 4096
+
+-- litres, in or out
+abbrev pub most_amount : ℕ
+most_amount = 10000
+
+abbrev pub most_top : ℕ
+most_top = 2560000
+
+abbrev pub most_draw : ℕ
+most_draw = 10000
 
 -- the letters of the longest name
 abbrev pub longest_name : ℕ
