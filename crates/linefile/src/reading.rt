@@ -1,10 +1,10 @@
 // Reading a line file, and what the line then holds.
-ghost use Rattle.std.specs.Prelude.{◌≡◌, ◌-◌, ◌<◌, ◌≤◌, true, ◌++◌, length, take, drop, is_ok, Some, None, Ok, MatchOption};
+ghost use Rattle.std.specs.Prelude.{◌≡◌, ◌-◌, ◌≤◌, true, ◌++◌, length, take, drop, is_ok, Some, None, Ok, MatchOption};
 ghost use Rattle.std.specs.List.{slice_get};
 ghost use Rattle.hopper.specs.Refusing.{verdict, passes, if_accepted};
 ghost use Rattle.lineformat.specs.Kinds.{kind_number};
 ghost use Rattle.lineformat.specs.Limits.{trailer_size, most_draw};
-ghost use Rattle.lineformat.specs.Format.{built_in, line_of, move_of, numbers_of, numbers_in, offsets_in};
+ghost use Rattle.lineformat.specs.Format.{built_in, line_of, numbers_of, numbers_in, offsets_in};
 ghost use Rattle.lineformat.specs.WellFormed.{moves_of, name_at, SoundNumbers, WellFormedLine};
 ghost use Rattle.lineformat.specs.Checks.{size_checks, version_checks, distance_checks, trailer_checks, read_checks, accepts, unpack_checks};
 ghost use Rattle.lineformat.specs.Laws.{AcceptsJustTheWritten};
