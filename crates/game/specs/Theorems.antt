@@ -49,7 +49,7 @@ abbrev pub ClosedIsIntervalBound : Type 0
 ClosedIsIntervalBound =
     (g : Game) → WellFormed g → (b p c : ℕ) → p < g.places → c ≤ b → (Good g (closed b) p c ↔ IntervalBound g b p c)
 
--- The good fills of the hopper without a lip are the credits that win the lower_bound problem.
+-- The good fills of the hopper without a lip are the credits that win the lower-bound problem.
 abbrev pub UnlimitedIsLowerBound : Type 0
 UnlimitedIsLowerBound =
     (g : Game) → WellFormed g → (p c : ℕ) → p < g.places → (Good g unlimited p c ↔ LowerBound g p c)

@@ -1,4 +1,4 @@
--- The bytes of a well_formed line are accepted, and spell that line.
+-- The bytes of a well-formed line are accepted, and spell that line.
 use Rattle.std.proofs.Common.{◌≡◌, ℕ, zero, suc, ◌+◌, ◌-◌, ◌*◌, ◌/◌, ◌%◌, ◌<◌, ◌≤◌, true, List, [], ◌∷◌, ◌++◌, length, get_or, take, ℤ, pos, negsuc, nat_abs, sym, refl, ap, ◌∙◌, le_of_suc-le-suc, not-suc-le-zero, arith, w16, SFits, to_z, of_z, rules}
 use Rattle.std.specs.List.{flat_map as joined}
 use Rattle.std.proofs.lemmas.List.{append_assoc, length-append, get_or_append_left, get_or-append_right, get_or-append-add, take_at}

@@ -1,4 +1,4 @@
--- The game of a well_formed line keeps the rules of games, and answers by the line's records.
+-- The game of a well-formed line keeps the rules of games, and answers by the line's records.
 use Rattle.std.proofs.Common.{◌≡◌, ℕ, zero, suc, ◌+◌, ◌<◌, ◌≤◌, true, List, [], ◌∷◌, map, length, drop, nat_abs, is_some, Some, None, Option, sym, refl, ap, ◌∙◌, ⊎_elim, arith}
 use Rattle.std.specs.List.{slice_get}
 use Rattle.std.specs.Option.{option_map}

@@ -182,7 +182,7 @@ unfolding read_checks
 accepted_line bs e =
     well_formed (line_of bs) (line_numbers bs (accepted_trailer bs e)) (passed_both (trailer_checks bs) (record_checks (line_of bs)) e).1
 
--- the name of a place of a well_formed line, in its file
+-- the name of a place of a well-formed line, in its file
 pub name_in : (bs : List ℕ) → WellFormedLine (line_of bs) → (p offset letters : ℕ) → p < length (line_of bs).places → offset ≡ letters_before (line_of bs) p → letters ≡ (place_of (line_of bs) p).letters
     → NameIn (line_of bs) bs p offset (offset + letters)
 name_in bs w p o k h eo ek =

@@ -5,7 +5,7 @@ use Rattle.lineformat.specs.Format.{Line, encode, line_of}
 use Rattle.lineformat.specs.WellFormed.{WellFormedLine}
 use Rattle.lineformat.specs.Checks.{accepts, write_checks}
 
--- a file is accepted exactly if it is the file of a well_formed line, and that is the line it is read as
+-- a file is accepted exactly if it is the file of a well-formed line, and that is the line it is read as
 pub record AcceptsJustTheWritten (bs : List ℕ) : Type 0 where
   pub read_is_written : accepts bs ≡ true → WellFormedLine (line_of bs) × (encode (line_of bs) ≡ bs)
   pub written_is_read : (l : Line) → WellFormedLine l → encode l ≡ bs → (accepts bs ≡ true) × (line_of bs ≡ l)

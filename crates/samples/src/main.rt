@@ -3,7 +3,6 @@
 
 use gauge::height;
 use hopper::limits::MOST_FILLS;
-use hopper::vessel::Vessel;
 use hopper::{AnyVessel, Board};
 use linefile::FileLine;
 use lineformat::LONGEST_FILE;

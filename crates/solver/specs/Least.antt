@@ -72,7 +72,7 @@ WinsLowerWeakUpperBoundFrom g t row =
 abbrev pub HoldsLeastWithoutLip : Game → Table → List ℕ → Type 0
 HoldsLeastWithoutLip g t row = (b : ℕ) → t ≡ lip b → drop_sum g ≤ b → (p : ℕ) → p < g.places → LeastGood g unlimited p (entries row p)
 
--- those are the least credits that win the lower_bound problem
+-- those are the least credits that win the lower-bound problem
 abbrev pub HoldsLeastLowerBound : Game → Table → List ℕ → Type 0
 HoldsLeastLowerBound g t row = (b : ℕ) → t ≡ lip b → drop_sum g ≤ b → (p : ℕ) → p < g.places → IsLeast (LowerBound g p) (entries row p)
 
