@@ -2,7 +2,7 @@
 #![tactic(auto)]
 
 ghost use Rattle.std.specs.Prelude.{◌≡◌, Some};
-ghost use Rattle.game.specs.Owners.{owner_number, owner_text};
+ghost use Rattle.game.specs.Owners.{owner_number, owner_text, NamesOwner};
 
 use std::fmt;
 
@@ -22,10 +22,30 @@ pub struct Edge {
 
 impl Owner {
     // The number by which a line file names the owner.
+    // kept as it is: no plainer, `u8::from` would not say which number.
     pub fn number(self) -> u8
         ensures { result ≡ owner_number self }
     {
         self as u8
+    }
+}
+
+// A number that names no owner.
+#[derive(Clone, Copy, PartialEq, Eq, Debug)]
+pub struct UnknownOwner(pub u8);
+
+// The owner that a line file names by the number.
+impl TryFrom<u8> for Owner {
+    type Error = UnknownOwner;
+
+    ghost try_from_gives = { NamesOwner };
+
+    fn try_from(number: u8) -> Result<Self, UnknownOwner> {
+        match number {
+            0 => Ok(Owner::Ours),
+            1 => Ok(Owner::Theirs),
+            _ => Err(UnknownOwner(number)),
+        }
     }
 }
 

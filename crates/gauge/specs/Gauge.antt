@@ -1,9 +1,8 @@
 -- The gauge: the litres at each height, the height of so many litres, and when both are asked for in vain.
 use Rattle.std.specs.Prelude.{ℕ, ◌*◌, ◌/◌, ◌<◌, ◌≤◌, List, [], ◌∷◌, nat_lt}
-use Rattle.hopper.specs.declared.Check.{Check}
+use Rattle.hopper.specs.Faults.{Check, check}
 use Rattle.hopper.specs.declared.Layer.TheVariants.{Rest}
 use Rattle.hopper.specs.declared.Refusal.TheVariants.{HeightAboveGauge, LitresAboveGauge}
-use Rattle.hopper.specs.Faults.{check}
 
 -- the top of the gauge, in millimetres
 abbrev pub most_height : ℕ

@@ -5,7 +5,7 @@ ghost use Rattle.std.specs.Prelude.{◌≡◌, ◌≤◌};
 ghost use Rattle.hopper.specs.Refusing.{refuse, Answers};
 ghost use Rattle.gauge.specs.Gauge.{most_height, litres, dip_checks, height_checks, IsLeastHeight};
 
-use hopper::{Check, Fault, Layer, Refusal, pass};
+use hopper::{Fault, Layer, Refusal, check, pass};
 
 // The top of the gauge, in millimetres.
 const MOST_HEIGHT: u32 = 1_200;
@@ -28,7 +28,7 @@ fn litres_at(h: u32) -> u32
 pub fn dip(h: u32) -> Result<u32, Fault>
     ensures { result ≡ refuse (dip_checks h) (litres h) }
 {
-    pass(&[Check::new(
+    pass(&[check(
         h > MOST_HEIGHT,
         Refusal::HeightAboveGauge,
         Layer::Rest,
@@ -41,12 +41,13 @@ pub fn dip(h: u32) -> Result<u32, Fault>
 pub fn height(wanted: u32) -> Result<u32, Fault>
     ensures { Answers (height_checks wanted) (IsLeastHeight wanted) (Unit {0}) result }
 {
-    pass(&[Check::new(
+    pass(&[check(
         wanted > MOST_LITRES,
         Refusal::LitresAboveGauge,
         Layer::Rest,
         wanted as u64,
     )])?;
+    // kept as it is: no plainer, a search by halves over numbers, where the library's is over slices
     let mut low = 0;
     let mut high = MOST_HEIGHT;
     while low < high {

@@ -1,52 +1,66 @@
 -- Tables of checks: where they pass, where they stop, and one table after another.
-use Rattle.std.proofs.Common.{◌≡◌, Bool, true, false, cond, List, [], ◌∷◌, ◌++◌, is_ok, IsErrAnd, Ok, Err, Result, sym, refl, ap, ◌∙◌}
+use Rattle.std.proofs.Common.{◌≡◌, Bool, true, false, List, [], ◌∷◌, ◌++◌, is_ok, ℕ, Option, is_some, Some, None, IsErrAnd, Ok, Err, Result, sym, refl, ap, ◌∙◌}
 use Rattle.std.specs.Result.{result_and}
-use Rattle.std.proofs.lemmas.Bool.{cond-false, false≢true}
-use Rattle.hopper.specs.declared.Check.{Check}
+use Rattle.std.specs.Bool.{then_some}
+use Rattle.std.specs.Option.{option_map}
+use Rattle.std.proofs.lemmas.Bool.{false≢true}
 use Rattle.hopper.specs.declared.Fault.{Fault}
+use Rattle.hopper.specs.Faults.{Check}
 use Rattle.hopper.specs.Refusing.{refuse, verdict, passes}
 
--- a table that passes: its first check does not fail, and the rest passes
-passed : (c : Check) (cs : List Check) → passes (c ∷ cs) ≡ true → (c.fails ≡ false) × (passes cs ≡ true)
-passed c cs e = by c.fails e
-  where
-    by : (b : Bool) → is_ok (cond b (Err c.fault) (verdict cs)) ≡ true → (b ≡ false) × (passes cs ≡ true)
-    by true e = absurd (false≢true e)
-    by false e = (refl, e)
-
-pass_on : (c : Check) (cs : List Check) → c.fails ≡ false → passes cs ≡ true → passes (c ∷ cs) ≡ true
-pass_on c cs e q = ap is_ok (cond-false c.fails (Err c.fault) (verdict cs) e) ∙ q
-
--- none of the checks fails
+-- none of the checks refuses
 abbrev pub NoneFails : List Check → Type 0
 NoneFails [] = Unit {0}
-NoneFails (c ∷ cs) = (c.fails ≡ false) × NoneFails cs
+NoneFails (c ∷ cs) = (is_some c ≡ false) × NoneFails cs
 
 pub none_fails : (cs : List Check) → passes cs ≡ true → NoneFails cs
 none_fails [] e = tt
-none_fails (c ∷ cs) e = let p = passed c cs e in (p.0, none_fails cs p.1)
+none_fails (Some f ∷ cs) e = absurd (false≢true e)
+none_fails (None ∷ cs) e = (refl, none_fails cs e)
 
 pub all_pass : (cs : List Check) → NoneFails cs → passes cs ≡ true
 all_pass [] n = refl
-all_pass (c ∷ cs) n = pass_on c cs n.0 (all_pass cs n.1)
+all_pass (Some f ∷ cs) n = absurd (false≢true (sym n.0))
+all_pass (None ∷ cs) n = all_pass cs n.1
+
+-- a check that passes: its test is false, or its search has found nothing
+pub untrue : (b : Bool) (f : Fault) → is_some (then_some b f) ≡ false → b ≡ false
+untrue true f e = e
+untrue false f e = e
+
+pub untrue_passes : (b : Bool) (f : Fault) → b ≡ false → is_some (then_some b f) ≡ false
+untrue_passes true f e = e
+untrue_passes false f e = e
+
+pub unfound : (o : Option ℕ) (f : ℕ → Fault) → is_some (option_map f o) ≡ false → is_some o ≡ false
+unfound None f e = e
+unfound (Some n) f e = e
+
+pub unfound_passes : (o : Option ℕ) (f : ℕ → Fault) → is_some o ≡ false → is_some (option_map f o) ≡ false
+unfound_passes None f e = e
+unfound_passes (Some n) f e = e
+
+-- a check whose test is false changes nothing, first or last
+pub skipped : {A : Type 0} (b : Bool) (f : Fault) (cs : List Check) (a : A) → b ≡ false → refuse (then_some b f ∷ cs) a ≡ refuse cs a
+skipped true f cs a e = absurd (false≢true (sym e))
+skipped false f cs a e = refl
+
+pub last_skipped : {A : Type 0} (cs : List Check) (a : A) → refuse (cs ++ (None ∷ [])) a ≡ refuse cs a
+last_skipped [] a = refl
+last_skipped (Some f ∷ cs) a = refl
+last_skipped (None ∷ cs) a = last_skipped cs a
 
 -- a table of two parts passes where both pass
 pub passed_both : (cs ds : List Check) → passes (cs ++ ds) ≡ true → (passes cs ≡ true) × (passes ds ≡ true)
 passed_both [] ds e = (refl, e)
-passed_both (c ∷ cs) ds e =
-    let p = passed c (cs ++ ds) e in
-    let q = passed_both cs ds p.1 in
-    (pass_on c cs p.0 q.0, q.1)
+passed_both (Some f ∷ cs) ds e = absurd (false≢true e)
+passed_both (None ∷ cs) ds e = passed_both cs ds e
 
 -- a table of two parts: the first refuses, or the second decides
 pub in_turn : {A : Type 0} (cs ds : List Check) (a : A) → refuse (cs ++ ds) a ≡ result_and (verdict cs) (refuse ds a)
 in_turn [] ds a = refl
-in_turn (c ∷ cs) ds a = by c.fails (in_turn cs ds a)
-  where
-    by : (b : Bool) → refuse (cs ++ ds) a ≡ result_and (verdict cs) (refuse ds a)
-        → cond b (Err c.fault) (refuse (cs ++ ds) a) ≡ result_and (cond b (Err c.fault) (verdict cs)) (refuse ds a)
-    by true e = refl
-    by false e = e
+in_turn (Some f ∷ cs) ds a = refl
+in_turn (None ∷ cs) ds a = in_turn cs ds a
 
 pub first_refuses : {A : Type 0} (cs ds : List Check) (a : A) (f : Fault) → Err f ≡ verdict cs → Err f ≡ refuse (cs ++ ds) a
 first_refuses cs ds a f e = sym (in_turn cs ds a ∙ ap (λ r. result_and r (refuse ds a)) (sym e))
@@ -73,11 +87,8 @@ pass_both cs ds e q = ap is_ok (in_turn cs ds tt ∙ ap (λ r. result_and r (ver
 -- the answer of a call is the verdict of its checks with the call's own answer
 pub answer_is : {A : Type 0} (cs : List Check) (a : A) → refuse cs a ≡ result_and (verdict cs) (Ok a)
 answer_is [] a = refl
-answer_is (c ∷ cs) a = by c.fails (answer_is cs a)
-  where
-    by : (b : Bool) → refuse cs a ≡ result_and (verdict cs) (Ok a) → cond b (Err c.fault) (refuse cs a) ≡ result_and (cond b (Err c.fault) (verdict cs)) (Ok a)
-    by true e = refl
-    by false e = e
+answer_is (Some f ∷ cs) a = refl
+answer_is (None ∷ cs) a = answer_is cs a
 
 -- where the checks pass, the call accepts; where they refuse, it refuses alike
 pub accept : {A : Type 0} (cs : List Check) (a : A) (u : Unit {0}) → Ok u ≡ verdict cs → refuse cs a ≡ Ok a

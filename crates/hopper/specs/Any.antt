@@ -7,18 +7,18 @@ use Rattle.hopper.specs.declared.any.AnyVessel.TheVariants.{OfLip, OfClosed, OfD
 
 -- its top
 abbrev pub any_top : AnyVessel → ℕ
-any_top (OfLip v) = v.top
-any_top (OfClosed v) = v.top
-any_top (OfDrawn v) = v.top
+any_top (OfLip v) = v.top.litres
+any_top (OfClosed v) = v.top.litres
+any_top (OfDrawn v) = v.top.litres
 
 -- its table is that of its kind
 abbrev pub any_table : AnyVessel → Table
-any_table (OfLip v) = lip v.top
-any_table (OfClosed v) = closed v.top
-any_table (OfDrawn v) = drawn v.top v.draw
+any_table (OfLip v) = lip v.top.litres
+any_table (OfClosed v) = closed v.top.litres
+any_table (OfDrawn v) = drawn v.top.litres v.draw
 
 -- which keeps the rules
 pub any_keeps : (v : AnyVessel) → Keeps (any_top v) (any_table v)
-any_keeps (OfLip v) = (vessels_keep_rules v.top 0 v.fits).lip_keeps
-any_keeps (OfClosed v) = (vessels_keep_rules v.top 0 v.fits).closed_keeps
-any_keeps (OfDrawn v) = (vessels_keep_rules v.top v.draw v.fits).drawn_keeps
+any_keeps (OfLip v) = (vessels_keep_rules v.top.litres 0 v.top.fits).lip_keeps
+any_keeps (OfClosed v) = (vessels_keep_rules v.top.litres 0 v.top.fits).closed_keeps
+any_keeps (OfDrawn v) = (vessels_keep_rules v.top.litres v.draw v.top.fits).drawn_keeps

@@ -1,7 +1,7 @@
 -- The number of each refusal and of each layer, and the faults and checks made of them.
-use Rattle.std.specs.Prelude.{ℕ, Bool, is_some, Option}
-use Rattle.std.specs.Option.{unwrap_or}
-use Rattle.hopper.specs.declared.Check.{Check}
+use Rattle.std.specs.Prelude.{ℕ, Bool, Option}
+use Rattle.std.specs.Bool.{then_some}
+use Rattle.std.specs.Option.{option_map}
 use Rattle.hopper.specs.declared.Fault.{Fault}
 use Rattle.hopper.specs.declared.Layer.{Layer}
 use Rattle.hopper.specs.declared.Layer.TheVariants.{Bytes, File, Line, Rest}
@@ -91,10 +91,14 @@ layer_number Rest = 4
 abbrev pub fault : Refusal → Layer → ℕ → Fault
 fault r l s = record { refusal = r; layer = l; spot = s }
 
--- a check that fails where the test is true
-abbrev pub check : Bool → Refusal → Layer → ℕ → Check
-check b r l s = record { fails = b; fault = fault r l s }
+-- a check: the fault that it refuses with, or nothing where it passes
+abbrev pub Check : Type 0
+Check = Option Fault
 
--- a check that fails where something was found, with that as its spot
+-- a check that refuses where the test is true
+abbrev pub check : Bool → Refusal → Layer → ℕ → Check
+check b r l s = then_some b (fault r l s)
+
+-- a check that refuses where something was found, with that as its spot
 abbrev pub check_at : Option ℕ → Refusal → Layer → Check
-check_at o r l = check (is_some o) r l (unwrap_or o 0)
+check_at o r l = option_map (λ s. fault r l s) o

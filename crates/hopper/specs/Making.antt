@@ -1,10 +1,9 @@
 -- When a vessel is made.
 use Rattle.std.specs.Prelude.{ℕ, ◌||◌, List, [], ◌∷◌, nat_lt}
 use Rattle.game.specs.Limits.{most_top, most_draw}
-use Rattle.hopper.specs.declared.Check.{Check}
 use Rattle.hopper.specs.declared.Layer.TheVariants.{File}
 use Rattle.hopper.specs.declared.Refusal.TheVariants.{VesselOutOfRange}
-use Rattle.hopper.specs.Faults.{check}
+use Rattle.hopper.specs.Faults.{Check, check}
 
 -- the checks of a lip and of a closed vessel
 abbrev pub top_checks : ℕ → List Check

@@ -1,12 +1,13 @@
 -- How a call refuses: by the first of its checks that fails.
-use Rattle.std.specs.Prelude.{◌≡◌, Bool, cond, List, [], ◌∷◌, is_ok, Ok, Err, Result}
-use Rattle.hopper.specs.declared.Check.{Check}
+use Rattle.std.specs.Prelude.{◌≡◌, Bool, cond, List, [], ◌∷◌, is_ok, Ok, Err, Result, Some, None}
 use Rattle.hopper.specs.declared.Fault.{Fault}
+use Rattle.hopper.specs.Faults.{Check}
 
--- the fault of the first check that fails, and the answer where none does
+-- the fault of the first check that has one, and the answer where none has
 abbrev pub refuse : {A : Type 0} → List Check → A → Result A Fault
 refuse [] a = Ok a
-refuse (c ∷ cs) a = cond c.fails (Err c.fault) (refuse cs a)
+refuse (Some f ∷ cs) a = Err f
+refuse (None ∷ cs) a = refuse cs a
 
 -- what stands after a call: something new where it accepted, what stood before where it refused
 abbrev pub if_accepted : {A B : Type 0} → Result A Fault → B → B → B

@@ -1,34 +1,31 @@
 // The drawn vessel.
 ghost use Rattle.std.specs.Prelude.{◌≡◌, ◌≤◌};
-ghost use Rattle.game.specs.Limits.{most_top, most_draw};
+ghost use Rattle.game.specs.Limits.{most_draw};
 ghost use Rattle.game.specs.Vessel.{drawn};
 ghost use Rattle.game.proofs.Vessels.{vessels_keep_rules};
 ghost use Rattle.hopper.specs.Making.{drawn_checks};
 ghost use Rattle.hopper.specs.Refusing.{Answers};
 
-use super::limits::{MOST_DRAW, MOST_TOP};
-use super::pouring::{added, lifted, range_check};
+use super::limits::MOST_DRAW;
+use super::top::{Top, range_check};
 use super::vessel::{Graded, Vessel};
 use super::{Fault, pass};
 
 // A drawn vessel: it has a lip, and after each pour it loses the draw, which it must hold.
 #[derive(Clone, Copy)]
 pub struct Drawn {
-    top: u32,
+    top: Top,
     draw: u32,
-    ghost fits: { top ≤ most_top },
     ghost draws: { (1 ≤ draw) × (draw ≤ most_draw) },
 }
 
 impl Drawn {
     // The drawn vessel with this top and draw.
     pub fn new(top: u32, draw: u32) -> Result<Drawn, Fault>
-        ensures { Answers (drawn_checks top draw) (λ v. (v.top ≡ top) × (v.draw ≡ draw)) (Unit {0}) result }
+        ensures { Answers (drawn_checks top draw) (λ v. (v.top.litres ≡ top) × (v.draw ≡ draw)) (Unit {0}) result }
     {
-        pass(&[
-            range_check(top > MOST_TOP, top),
-            range_check(draw < 1 || draw > MOST_DRAW, draw),
-        ])?;
+        let top = Top::new(top)?;
+        pass(&[range_check(draw < 1 || draw > MOST_DRAW, draw)])?;
         Ok(Drawn { top, draw })
     }
 
@@ -41,36 +38,28 @@ impl Drawn {
 }
 
 impl Vessel for Drawn {
-    ghost top = { λ v. v.top };
+    ghost top = { λ v. v.top.litres };
 
-    ghost table = { λ v. drawn v.top v.draw };
+    ghost table = { λ v. drawn v.top.litres v.draw };
 
-    ghost keeps = { λ v. (vessels_keep_rules v.top v.draw v.fits).drawn_keeps };
+    ghost keeps = { λ v. (vessels_keep_rules v.top.litres v.draw v.top.fits).drawn_keeps };
 
     fn top(&self) -> u32 {
-        self.top
+        self.top.litres
     }
 
     fn pour(&self, level: u32, amount: i32) -> Option<u32> {
-        match added(self.top, level, amount) {
-            Some(sum) => {
-                let cut = if sum < self.top { sum } else { self.top };
-                if cut < self.draw {
-                    None
-                } else {
-                    Some(cut - self.draw)
-                }
-            }
-            None => None,
-        }
+        let sum = self.top.added(level, amount)?;
+        let cut = sum.min(self.top.litres);
+        cut.checked_sub(self.draw)
     }
 }
 
 impl Graded for Drawn {
     fn need(&self, wanted: u32, amount: i32) -> Option<u32> {
-        if wanted > self.top {
+        if wanted > self.top.litres {
             return None;
         }
-        lifted(self.top, wanted + self.draw, amount)
+        self.top.lifted(wanted + self.draw, amount)
     }
 }

@@ -1,13 +1,10 @@
 // Boards and vessels, and what every call of the planner answers where it refuses: a fault, by its table of checks.
 #![tactic(auto)]
 
-ghost use Rattle.std.specs.Prelude.{◌≡◌, Some, Ok, Err, MatchOption, ◌==◌};
+ghost use Rattle.std.specs.Prelude.{◌≡◌, ◌==◌, Some};
 ghost use Rattle.hopper.specs.Faults.{refusal_number, layer_number, check, check_at};
 ghost use Rattle.hopper.specs.Refusing.{verdict};
 ghost use Rattle.hopper.specs.Texts.{refused_text};
-ghost use Rattle.std.specs.Cmp.Rules.{comparing};
-ghost use Rattle.std.proofs.Common.{rules};
-ghost use Rattle.std.specs.Cmp as Keys;
 
 use std::fmt;
 
@@ -17,7 +14,7 @@ pub mod closed;
 pub mod drawn;
 pub mod limits;
 pub mod lip;
-mod pouring;
+mod top;
 pub mod vessel;
 
 pub use any::AnyVessel;
@@ -28,7 +25,7 @@ pub use lip::Lip;
 pub use vessel::{Graded, Vessel};
 
 // Why a call refuses.
-#[derive(Clone, Copy, Eq, Debug)]
+#[derive(Clone, Copy, PartialEq, Eq, Debug)]
 pub enum Refusal {
     // the file has more bytes than any line file has
     FileTooLong = 1,
@@ -119,40 +116,29 @@ pub struct Fault {
     pub spot: u64,
 }
 
-// One line of a call's table of checks: whether it fails, and the fault that it then refuses with.
-#[derive(Clone, Copy, PartialEq, Eq, Debug)]
-pub struct Check {
-    pub fails: bool,
-    pub fault: Fault,
-}
-
-fn refusal_number(refusal: Refusal) -> u8
-    ensures { result ≡ refusal_number refusal }
-{
-    refusal as u8
-}
-
-// Refusals are the same where their numbers are.
-impl PartialEq for Refusal {
-    ghost eq = { λ a b. (refusal_number a == refusal_number b) };
-
-    ghost laws = { Keys.partial_equiv_from_equiv (Prim.search (comparing, rules)) };
-
-    fn eq(&self, other: &Refusal) -> bool {
-        refusal_number(*self) == refusal_number(*other)
-    }
-}
+// One line of a call's table of checks: the fault that it refuses with, or nothing where it passes.
+pub type Check = Option<Fault>;
 
 impl Fault {
     // The number of the refusal.
+    // kept as it is: no plainer, `u8::from` would not say which number of a fault.
     pub fn number(self) -> u8
         ensures { result ≡ refusal_number self.refusal }
     {
         self.refusal as u8
     }
+
+    // Whether it is this refusal. Refusals are the same where their numbers are.
+    pub fn is_refusal(self, refusal: Refusal) -> bool
+        ensures { result ≡ (refusal_number self.refusal == refusal_number refusal) }
+    {
+        self.refusal == refusal
+    }
 }
 
 impl Layer {
+    // The number of the layer.
+    // kept as it is: no plainer, `u8::from` would not say which number.
     pub fn number(self) -> u8
         ensures { result ≡ layer_number self }
     {
@@ -160,51 +146,34 @@ impl Layer {
     }
 }
 
-impl Check {
-    pub fn new(fails: bool, refusal: Refusal, layer: Layer, spot: u64) -> Check
-        ensures { result ≡ check fails refusal layer spot }
-    {
-        Check {
-            fails,
-            fault: Fault {
-                refusal,
-                layer,
-                spot,
-            },
-        }
-    }
-
-    // A check that fails where a search has found something, and names what it found.
-    pub fn found(at: Option<u64>, refusal: Refusal, layer: Layer) -> Check
-        ensures { result ≡ check_at at refusal layer }
-    {
-        match at {
-            Some(spot) => Check::new(true, refusal, layer, spot),
-            None => Check::new(false, refusal, layer, 0),
-        }
-    }
-}
-
-// The fault of the first check that fails.
-fn first_fault(checks: &[Check]) -> Option<Fault>
-    ensures { MatchOption result (verdict checks.now ≡ Ok tt) (λ f. verdict checks.now ≡ Err f) }
+// The check that refuses where a test is true.
+pub fn check(fails: bool, refusal: Refusal, layer: Layer, spot: u64) -> Check
+    ensures { result ≡ check fails refusal layer spot }
 {
-    for check in checks {
-        if check.fails {
-            return Some(check.fault);
-        }
-    }
-    None
+    found(fails.then_some(spot), refusal, layer)
 }
 
-// Refuses with the fault of the first check that fails, and passes where none does.
+// The check that refuses where a search has found something, and names what it found.
+pub fn found(at: Option<u64>, refusal: Refusal, layer: Layer) -> Check
+    ensures { result ≡ check_at at refusal layer }
+{
+    at.map(|spot| Fault {
+        refusal,
+        layer,
+        spot,
+    })
+}
+
+// Refuses with the fault of the first check that has one, and passes where none has.
 pub fn pass(checks: &[Check]) -> Result<(), Fault>
     ensures { result ≡ verdict checks.now }
 {
-    match first_fault(checks) {
-        Some(fault) => Err(fault),
-        None => Ok(()),
+    for check in checks {
+        if let Some(fault) = check {
+            return Err(*fault);
+        }
     }
+    Ok(())
 }
 
 // A fault as every program of the planner prints it: `refused` with its number, its layer and its spot.

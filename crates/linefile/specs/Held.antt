@@ -13,7 +13,7 @@ use Rattle.linefile.specs.declared.FileLine.{FileLine}
 use Rattle.linefile.specs.declared.Name.{Name}
 
 abbrev pub file_of : FileLine → List ℕ
-file_of b = b.bytes.now
+file_of b = b.file.bytes.now
 
 abbrev pub held : FileLine → Line
 held b = line_of (file_of b)
@@ -44,6 +44,6 @@ WritesAgain file l = (passes (write_checks l (length file)) ≡ true) × (encode
 
 -- the vessel is the one that the line names: of its kind, with its top, and with its draw where it has one
 abbrev pub OwnVessel : Line → AnyVessel → Type 0
-OwnVessel l (OfLip v) = (l.kind ≡ 0) × (v.top ≡ l.top)
-OwnVessel l (OfClosed v) = (l.kind ≡ 1) × (v.top ≡ l.top)
-OwnVessel l (OfDrawn v) = (l.kind ≡ drawn_kind) × (v.top ≡ l.top) × (v.draw ≡ l.draw)
+OwnVessel l (OfLip v) = (l.kind ≡ 0) × (v.top.litres ≡ l.top)
+OwnVessel l (OfClosed v) = (l.kind ≡ 1) × (v.top.litres ≡ l.top)
+OwnVessel l (OfDrawn v) = (l.kind ≡ drawn_kind) × (v.top.litres ≡ l.top) × (v.draw ≡ l.draw)

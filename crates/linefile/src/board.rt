@@ -17,36 +17,26 @@ impl<'a> Board for FileLine<'a> {
     ghost formed = { λ b. file_formed (file_of b) b.accepted };
 
     fn places(&self) -> u32 {
-        self.formed();
         self.places() as u32
     }
 
+    #[tactic(auto, using(lineformat::proofs::Formed::owner_is))]
     fn owner(&self, place: u32) -> Option<Owner> {
-        match self.place(place as usize) {
-            Some(record) => Some(if record.owner == 0 {
-                Owner::Ours
-            } else {
-                Owner::Theirs
-            }),
-            None => None,
-        }
+        Owner::try_from(self.place(place as usize)?.owner).ok()
     }
 
+    #[tactic(auto, using(lineformat::proofs::Formed::moves_is))]
     fn moves(&self, place: u32) -> Option<u32> {
-        match self.place(place as usize) {
-            Some(record) => Some(u32::from(record.moves)),
-            None => None,
-        }
+        Some(u32::from(self.place(place as usize)?.moves))
     }
 
+    #[tactic(auto, using(lineformat::proofs::Formed::step_is))]
     fn step(&self, place: u32, mv: u32) -> Option<Edge> {
-        match self.step_of(place as usize, mv as usize) {
-            Some(step) => Some(Edge {
-                target: u32::from(step.target),
-                amount: i32::from(step.amount),
-            }),
-            None => None,
-        }
+        let step = self.step_of(place as usize, mv as usize)?;
+        Some(Edge {
+            target: u32::from(step.target),
+            amount: i32::from(step.amount),
+        })
     }
 }
 
@@ -57,21 +47,11 @@ impl<'a> FileLine<'a> {
         ensures top { any_top result ≡ (held self.now).top }
         ensures table { any_table result ≡ table_of (held self.now).kind (held self.now).top (held self.now).draw }
     {
-        self.formed();
         let top = self.top();
         match self.kind() {
-            Kind::Lip => match Lip::new(top) {
-                Ok(vessel) => AnyVessel::OfLip(vessel),
-                Err(_) => unreachable(),
-            },
-            Kind::Closed => match Closed::new(top) {
-                Ok(vessel) => AnyVessel::OfClosed(vessel),
-                Err(_) => unreachable(),
-            },
-            Kind::Drawn => match Drawn::new(top, u32::from(self.draw())) {
-                Ok(vessel) => AnyVessel::OfDrawn(vessel),
-                Err(_) => unreachable(),
-            },
+            Kind::Lip => AnyVessel::OfLip(Lip::new(top).unwrap()),
+            Kind::Closed => AnyVessel::OfClosed(Closed::new(top).unwrap()),
+            Kind::Drawn => AnyVessel::OfDrawn(Drawn::new(top, u32::from(self.draw())).unwrap()),
         }
     }
 }

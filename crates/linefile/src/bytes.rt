@@ -1,18 +1,23 @@
 // Numbers and records in the bytes of a file.
-ghost use Rattle.std.specs.Prelude.{◌≡◌, ℕ, ◌+◌, ◌*◌, ◌<◌, ◌≤◌, List, ◌++◌, length, take, drop, slice_index, refl};
+ghost use Rattle.std.specs.Prelude.{◌≡◌, ℕ, ◌+◌, ◌*◌, ◌≤◌, List, ◌++◌, length, take, drop, refl};
 ghost use Rattle.std.specs.List.{flat_map};
-ghost use Rattle.lineformat.specs.Format.{two_at, four_at, move_at, place_at, move_bytes, place_bytes, records_at};
+ghost use Rattle.lineformat.specs.Format.{Line, line_of, move_at, place_at, move_bytes, place_bytes, places_from, moves_from, records_at};
+ghost use Rattle.lineformat.proofs.Spelt.{places_spelt, moves_spelt};
 
+use super::trailed::Trailed;
 use lineformat::{MoveRecord, PlaceRecord};
 
-// A record of four bytes.
+// A record of four bytes, of which a line has a list.
 pub(crate) trait Record: Copy {
     // what its bytes are, and which record the bytes at an offset spell
     ghost bytes: { Self → List ℕ };
 
     ghost at: { List ℕ → ℕ → Self };
 
-    ghost four: { (x : Self) → length (bytes x) ≡ 4 };
+    // which list of a line has these records, and where it begins in a file
+    ghost list: { Line → List Self };
+
+    ghost from: { List ℕ → ℕ };
 
     fn read_at(file: &[u8], o: usize) -> Self
         requires { o + 4 ≤ length file.now }
@@ -20,6 +25,17 @@ pub(crate) trait Record: Copy {
 
     fn to_bytes(self) -> [u8; 4]
         ensures { result ≡ bytes self };
+
+    // Where the records of a file begin, and how many there are.
+    // kept as it is: no plainer, a record is found by its offset, and in a part of the file of its own it would be so too.
+    fn part(file: &Trailed) -> (usize, usize)
+        ensures begin { result.0 ≡ from file.now.bytes.now }
+        ensures count { result.1 ≡ length (list (line_of file.now.bytes.now)) }
+        ensures inside { result.0 + result.1 * 4 ≤ length file.now.bytes.now };
+
+    ghost four: { (x : Self) → length (bytes x) ≡ 4 };
+
+    ghost spelt: { (bs : List ℕ) → list (line_of bs) ≡ records_at at bs (from bs) (length (list (line_of bs))) };
 }
 
 impl Record for PlaceRecord {
@@ -27,19 +43,29 @@ impl Record for PlaceRecord {
 
     ghost at = { place_at };
 
+    ghost list = { λ l. l.places };
+
+    ghost from = { places_from };
+
     ghost four = { λ _. refl };
+
+    ghost spelt = { places_spelt };
 
     fn read_at(file: &[u8], o: usize) -> PlaceRecord {
         PlaceRecord {
             owner: file[o],
             letters: file[o + 1],
-            moves: two_at(file, o + 2),
+            moves: u16::from_le_bytes(bytes_at(file, o + 2)),
         }
     }
 
     fn to_bytes(self) -> [u8; 4] {
         let [low, high] = self.moves.to_le_bytes();
         [self.owner, self.letters, low, high]
+    }
+
+    fn part(file: &Trailed) -> (usize, usize) {
+        (file.first, file.numbers.places as usize)
     }
 }
 
@@ -48,12 +74,18 @@ impl Record for MoveRecord {
 
     ghost at = { move_at };
 
+    ghost list = { λ l. l.moves };
+
+    ghost from = { moves_from };
+
     ghost four = { λ _. refl };
+
+    ghost spelt = { moves_spelt };
 
     fn read_at(file: &[u8], o: usize) -> MoveRecord {
         MoveRecord {
-            target: two_at(file, o),
-            amount: i16::from_le_bytes([file[o + 2], file[o + 3]]),
+            target: u16::from_le_bytes(bytes_at(file, o)),
+            amount: i16::from_le_bytes(bytes_at(file, o + 2)),
         }
     }
 
@@ -62,42 +94,22 @@ impl Record for MoveRecord {
         let [c, d] = self.amount.to_le_bytes();
         [a, b, c, d]
     }
-}
 
-// The number in the two bytes at an offset, low byte first.
-pub(crate) fn two_at(file: &[u8], o: usize) -> u16
-    requires { o + 2 ≤ length file.now }
-    ensures { result ≡ two_at file.now o }
-{
-    u16::from_le_bytes([file[o], file[o + 1]])
-}
-
-// The number in the four bytes at an offset.
-pub(crate) fn four_at(file: &[u8], o: usize) -> u32
-    requires { o + 4 ≤ length file.now }
-    ensures { result ≡ four_at file.now o }
-{
-    u32::from_le_bytes([file[o], file[o + 1], file[o + 2], file[o + 3]])
-}
-
-// A slice of bytes holds bytes.
-pub(crate) fn octets(file: &[u8])
-    ensures { (i : ℕ) → slice_index file.now i < 256 }
-{
-    let _first = file.first();
-}
-
-// Fills the first `n` entries of a table with the records that begin at an offset.
-pub(crate) fn fill<R: Record>(file: &[u8], from: usize, n: usize, table: &mut [R])
-    requires { (from + n * 4 ≤ length file.now) × (n ≤ length table.old) }
-    ensures { table.new ≡ records_at R.Record.at file.now from n ++ drop n table.old }
-{
-    for i in 0..n {
-        table[i] = R::read_at(file, from + i * 4);
+    fn part(file: &Trailed) -> (usize, usize) {
+        (file.names, file.numbers.moves as usize)
     }
 }
 
+// The bytes at an offset.
+pub(crate) fn bytes_at<const N: usize>(file: &[u8], o: usize) -> [u8; N]
+    requires { o + N ≤ length file.now }
+    ensures { result ≡ take N (drop o file.now) }
+{
+    *file[o..].first_chunk().unwrap()
+}
+
 // Puts some bytes at an offset.
+#[tactic(auto, using(std::proofs::lemmas::Slice::overwrites))]
 pub(crate) fn put(out: &mut [u8], o: usize, part: &[u8])
     requires { o + length part.now ≤ length out.old }
     ensures { out.new ≡ take o out.old ++ (part.now ++ drop (o + length part.now) out.old) }
@@ -106,11 +118,12 @@ pub(crate) fn put(out: &mut [u8], o: usize, part: &[u8])
 }
 
 // Puts the bytes of all records of a table from an offset on.
+#[tactic(auto, using(lineformat::proofs::Tables::put_step))]
 pub(crate) fn put_all<R: Record>(table: &[R], out: &mut [u8], from: usize)
     requires { from + length table.now * 4 ≤ length out.old }
     ensures { out.new ≡ take from out.old ++ (flat_map R.Record.bytes table.now ++ drop (from + length table.now * 4) out.old) }
 {
-    for i in 0..table.len() {
-        put(out, from + i * 4, &table[i].to_bytes());
+    for (i, record) in table.iter().enumerate() {
+        put(out, from + i * 4, &record.to_bytes());
     }
 }

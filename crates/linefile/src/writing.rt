@@ -1,10 +1,8 @@
 // Writing a line file from tables.
-ghost use Rattle.std.specs.Prelude.{◌≡◌, ◌+◌, ◌*◌, ◌≤◌, true, ◌++◌, length, drop, is_ok};
-ghost use Rattle.hopper.specs.Refusing.{refuse, verdict, passes, if_accepted};
-ghost use Rattle.lineformat.specs.Limits.{most_places, most_moves};
+ghost use Rattle.std.specs.Prelude.{◌≡◌, ◌≤◌, ◌++◌, length, drop};
+ghost use Rattle.hopper.specs.Refusing.{refuse, verdict, if_accepted, Answers};
 ghost use Rattle.lineformat.specs.Format.{numbers_of, trailer_bytes, encode};
-ghost use Rattle.lineformat.specs.WellFormed.{SoundNumbers};
-ghost use Rattle.lineformat.specs.Checks.{number_checks, record_checks, write_checks};
+ghost use Rattle.lineformat.specs.Checks.{number_checks, record_checks, room_checks, write_checks};
 ghost use Rattle.lineformat.specs.Laws.{WritesJustTheWellFormed};
 ghost use Rattle.lineformat.proofs.Encoded.{SizeOf};
 ghost use Rattle.linefile.specs.Tabled.{line_in};
@@ -12,31 +10,29 @@ ghost use Rattle.linefile.specs.Tabled.{line_in};
 use super::LineTables;
 use super::bytes::{put, put_all};
 use super::records::{check_numbers, check_records};
-use hopper::{Check, Fault, Layer, Refusal, pass};
+use hopper::{Fault, Layer, Refusal, check, pass};
 use lineformat::{Numbers, ONLY_VERSION, TRAILER_SIZE};
+
+// A line that passes the checks of its numbers and its records, and the length of its file.
+#[derive(Clone, Copy)]
+struct Checked<'a> {
+    line: LineTables<'a>,
+    size: usize,
+    ghost sized: { SizeOf (line_in line) size },
+}
 
 impl<'a> LineTables<'a> {
     // Writes the file of this line, and answers its length; where it refuses, it writes nothing.
+    #[tactic(auto, using(lineformat::proofs::Laws::writes_just_the_well_formed, hopper::proofs::Refusing::first_refuses, hopper::proofs::Refusing::handed_on, hopper::proofs::Refusing::none_fails), unfolding(lineformat::specs::Checks::write_checks, lineformat::specs::Checks::room_checks))]
     pub fn write(&self, out: &mut [u8]) -> Result<usize, Fault>
         ensures answer { result ≡ refuse (write_checks (line_in self.now) (length out.old)) (length (encode (line_in self.now))) }
         ensures written { out.new ≡ if_accepted result (encode (line_in self.now) ++ drop (length (encode (line_in self.now))) out.old) out.old }
         ensures law { WritesJustTheWellFormed (line_in self.now) (length out.old) }
     {
-        self.writes_just_the_well_formed(out.len());
-        match self.check(out.len()) {
-            Err(fault) => Err(fault),
-            Ok(size) => {
-                self.put(out);
-                Ok(size)
-            }
-        }
-    }
-
-    // What is written is a well-formed line, and reads back.
-    fn writes_just_the_well_formed(&self, room: usize)
-        ensures { WritesJustTheWellFormed (line_in self.now) room }
-    {
-        let _n = self.names.len();
+        let checked = self.checked()?;
+        checked.check_room(out.len())?;
+        checked.put(out);
+        Ok(checked.size)
     }
 
     fn numbers(&self) -> Numbers
@@ -51,109 +47,61 @@ impl<'a> LineTables<'a> {
         }
     }
 
-    // Numbers that pass the checks are in range.
-    fn sound(&self, n: Numbers)
-        requires same { n ≡ numbers_of (line_in self.now) }
-        requires pass { passes (number_checks n n) ≡ true }
-        ensures { SoundNumbers (numbers_of (line_in self.now)) }
-    {
-        let _n = self.names.len();
-    }
-
     // Checks all but the room.
-    fn check_line(&self) -> Result<(), Fault>
-        ensures { result ≡ verdict (number_checks (numbers_of (line_in self.now)) (numbers_of (line_in self.now)) ++ record_checks (line_in self.now)) }
+    fn checked(&self) -> Result<Checked<'a>, Fault>
+        ensures { Answers (number_checks (numbers_of (line_in self.now)) (numbers_of (line_in self.now)) ++ record_checks (line_in self.now)) (λ c. line_in c.line ≡ line_in self.now) (Unit {0}) result }
     {
         let n = self.numbers();
         check_numbers(n, n)?;
-        self.sound(n);
-        check_records(self)
+        check_records(self)?;
+        Ok(Checked {
+            line: *self,
+            size: self.names.len() + self.moves.len() * 4 + self.places.len() * 4 + TRAILER_SIZE,
+        })
     }
+}
 
-    // The length of the file of a line that passes these checks.
-    fn size(&self) -> usize
-        requires { passes (number_checks (numbers_of (line_in self.now)) (numbers_of (line_in self.now)) ++ record_checks (line_in self.now)) ≡ true }
-        ensures { SizeOf (line_in self.now) result }
+impl<'a> Checked<'a> {
+    #[tactic(auto, unfolding(lineformat::specs::Checks::room_checks))]
+    fn check_room(&self, room: usize) -> Result<(), Fault>
+        ensures { result ≡ verdict (room_checks (line_in self.now.line) room) }
     {
-        self.small();
-        self.names.len() + self.moves.len() * 4 + self.places.len() * 4 + TRAILER_SIZE
-    }
-
-    // The parts of a line that passes these checks are short.
-    fn small(&self)
-        requires { passes (number_checks (numbers_of (line_in self.now)) (numbers_of (line_in self.now)) ++ record_checks (line_in self.now)) ≡ true }
-        ensures { SizeOf (line_in self.now) (length (encode (line_in self.now))) }
-    {
-        let _n = self.names.len();
-    }
-
-    // A line that passes all checks has short parts, and its file fits.
-    fn fits(&self, room: usize)
-        requires { passes (write_checks (line_in self.now) room) ≡ true }
-        ensures size { SizeOf (line_in self.now) (length (encode (line_in self.now))) }
-        ensures room { length (encode (line_in self.now)) ≤ room }
-    {
-        let _n = self.names.len();
-    }
-
-    // Checks the line and the room, and answers the length of the file.
-    fn check(&self, room: usize) -> Result<usize, Fault>
-        ensures passed { is_ok result ≡ true → passes (write_checks (line_in self.now) room) ≡ true }
-        ensures answer { result ≡ refuse (write_checks (line_in self.now) room) (length (encode (line_in self.now))) }
-    {
-        self.check_line()?;
-        let size = self.size();
-        pass(&[Check::new(
-            room < size,
+        pass(&[check(
+            room < self.size,
             Refusal::OutputTooShort,
             Layer::Rest,
-            size as u64,
-        )])?;
-        Ok(size)
+            self.size as u64,
+        )])
     }
 
-    fn trailer(&self) -> [u8; 16]
-        requires { (length self.now.places.now ≤ most_places) × (length self.now.moves.now ≤ most_moves) }
-        ensures { result ≡ trailer_bytes (numbers_of (line_in self.now)) }
+    fn trailer(&self) -> [u8; TRAILER_SIZE]
+        ensures { result ≡ trailer_bytes (numbers_of (line_in self.now.line)) }
     {
-        let (n, m) = (self.places.len() as u16, self.moves.len() as u16);
-        let [n0, n1] = n.to_le_bytes();
-        let [m0, m1] = m.to_le_bytes();
-        let [t0, t1, t2, t3] = self.top.to_le_bytes();
-        let [d0, d1] = self.draw.to_le_bytes();
-        let [b0, b1, b2, b3] = (4 * (u32::from(m) + u32::from(n))).to_le_bytes();
-        [
-            n0,
-            n1,
-            m0,
-            m1,
-            t0,
-            t1,
-            t2,
-            t3,
-            d0,
-            d1,
-            self.kind,
-            ONLY_VERSION,
-            b0,
-            b1,
-            b2,
-            b3,
-        ]
+        let line = self.line;
+        let (n, m) = (line.places.len() as u16, line.moves.len() as u16);
+        let back = 4 * (u32::from(m) + u32::from(n));
+        let mut bytes = [0; TRAILER_SIZE];
+        put(&mut bytes, 0, &n.to_le_bytes());
+        put(&mut bytes, 2, &m.to_le_bytes());
+        put(&mut bytes, 4, &line.top.to_le_bytes());
+        put(&mut bytes, 8, &line.draw.to_le_bytes());
+        put(&mut bytes, 10, &[line.kind, ONLY_VERSION]);
+        put(&mut bytes, 12, &back.to_le_bytes());
+        bytes
     }
 
     // Puts the four parts of the file one after another.
     fn put(&self, out: &mut [u8])
-        requires { passes (write_checks (line_in self.now) (length out.old)) ≡ true }
-        ensures { out.new ≡ encode (line_in self.now) ++ drop (length (encode (line_in self.now))) out.old }
+        requires { self.now.size ≤ length out.old }
+        ensures { out.new ≡ encode (line_in self.now.line) ++ drop (length (encode (line_in self.now.line))) out.old }
     {
-        self.fits(out.len());
-        let moves = self.names.len();
-        let places = moves + self.moves.len() * 4;
-        let trailer = places + self.places.len() * 4;
-        put(out, 0, self.names);
-        put_all(self.moves, out, moves);
-        put_all(self.places, out, places);
+        let line = self.line;
+        let moves = line.names.len();
+        let places = moves + line.moves.len() * 4;
+        let trailer = places + line.places.len() * 4;
+        put(out, 0, line.names);
+        put_all(line.moves, out, moves);
+        put_all(line.places, out, places);
         put(out, trailer, &self.trailer());
     }
 }

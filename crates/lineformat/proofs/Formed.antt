@@ -1,19 +1,25 @@
 -- The game of a well-formed line keeps the rules of games, and answers by the line's records.
-use Rattle.std.proofs.Common.{◌≡◌, ℕ, zero, suc, ◌+◌, ◌<◌, ◌≤◌, true, List, [], ◌∷◌, map, length, drop, nat_abs, is_some, Some, None, Option, sym, refl, ap, ◌∙◌, ⊎_elim, arith}
+use Rattle.std.proofs.Common.{◌≡◌, ℕ, zero, suc, ◌+◌, ◌<◌, ◌≤◌, true, List, [], ◌∷◌, map, length, drop, nat_abs, is_some, Some, None, Option, Ok, Err, Result, sym, refl, ap, ◌∙◌, ⊎_elim, le_of_suc-le-suc, not-suc-le-zero, arith}
 use Rattle.std.specs.List.{slice_get}
 use Rattle.std.specs.Option.{option_map}
+use Rattle.std.specs.Result.{result_ok}
 use Rattle.std.proofs.lemmas.List.{length-map, length-take-le, length-drop}
-use Rattle.std.proofs.lemmas.Option.{slice_get-get_or, slice_get_past}
+use Rattle.std.proofs.lemmas.Option.{slice_get-get_or, slice_get_past, slice_get_within, get_or_from_slice_get}
 use Rattle.std.proofs.lemmas.Bool.{cases_lt, false≢true}
 use Rattle.game.specs.declared.Edge.{Edge}
+use Rattle.game.specs.declared.Owner.{Owner}
+use Rattle.game.specs.declared.Owner.TheVariants.{Ours, Theirs}
+use Rattle.game.specs.declared.UnknownOwner.{UnknownOwner}
 use Rattle.game.specs.Game.{Place, SoundPlace, WellFormed}
-use Rattle.hopper.specs.Boards.{moves_at, step_at}
+use Rattle.game.specs.Owners.{NamesOwner}
+use Rattle.hopper.specs.Boards.{owner_at, moves_at, step_at}
 use Rattle.lineformat.specs.declared.MoveRecord.{MoveRecord}
 use Rattle.lineformat.specs.declared.PlaceRecord.{PlaceRecord}
+use Rattle.lineformat.specs.Limits.{last_owner}
 use Rattle.lineformat.specs.Format.{Line, line_of, place_of, move_of, no_place, no_move}
 use Rattle.lineformat.specs.WellFormed.{WellFormedLine, moves_of, moves_before}
 use Rattle.lineformat.specs.Checks.{accepts}
-use Rattle.lineformat.specs.Games.{game_of, place_from, edge_from}
+use Rattle.lineformat.specs.Games.{game_of, place_from, edge_from, owner_from}
 use Rattle.lineformat.proofs.Sound.{accepted_line, in_moves, move_in}
 use Rattle.lineformat.proofs.Spelt.{no_moves, nth_part_past}
 
@@ -88,6 +94,25 @@ moves_is l w p r e = ⊎_elim (λ h. inside h) (λ h. absurd (past h)) (cases_lt
         let a = slice_get-get_or l.places p no_place h in
         let q : place_of l p ≡ r = cc in
         ap (λ x. moves_at (option_map (place_from l p) x)) e ∙ ap Some (count_of l w p h ∙ ap (λ (x : PlaceRecord). x.moves) q)
+
+-- the owner that the number of a place names is the owner of the place
+pub owner_is : (l : Line) → WellFormedLine l → (p : ℕ) (r : PlaceRecord) → slice_get l.places p ≡ Some r
+    → (o : Result Owner UnknownOwner) → NamesOwner r.owner o → result_ok o ≡ owner_at ((game_of l).at p)
+owner_is l w p r e o n = named o r.owner low n ∙ sym (ap (λ x. owner_at (option_map (place_from l p) x)) e)
+  where
+    low : r.owner ≤ 1
+    low =
+        let q : place_of l p ≡ r = get_or_from_slice_get l.places p r no_place e in
+        let a : (place_of l p).owner ≤ last_owner = (w.each_place p (slice_get_within l.places p r e)).owned in
+        let b = ap (λ (x : PlaceRecord). x.owner) q in
+        omega arith
+
+    named : (o : Result Owner UnknownOwner) (k : ℕ) → k ≤ 1 → NamesOwner k o → result_ok o ≡ Some (owner_from k)
+    named (Ok Ours) k h n = ap (λ x. Some (owner_from x)) n
+    named (Ok Theirs) k h n = ap (λ x. Some (owner_from x)) n
+    named (Err x) zero h n = absurd (n.1 Ours refl)
+    named (Err x) (suc zero) h n = absurd (n.1 Theirs refl)
+    named (Err x) (suc (suc k)) h n = absurd (not-suc-le-zero (le_of_suc-le-suc h))
 
 pub step_is : (l : Line) (p m : ℕ) → step_at ((game_of l).at p) m ≡ option_map edge_from (slice_get (moves_of l p) m)
 step_is l p m = ⊎_elim (λ h. inside h) (λ h. past h) (cases_lt p (length l.places))

@@ -1,8 +1,8 @@
 -- The laws of the line file.
-use Rattle.std.proofs.Common.{◌≡◌, ℕ, true, List, ◌++◌, length, sym, ap, ◌∙◌, arith}
+use Rattle.std.proofs.Common.{◌≡◌, ℕ, true, List, ◌++◌, length, get_or, sym, ap, ◌∙◌, w8, Fits, arith}
 use Rattle.std.proofs.lemmas.Bool.{ltb-false, le-ltb}
 use Rattle.hopper.specs.Refusing.{passes}
-use Rattle.hopper.proofs.Refusing.{none_fails, all_pass, passed_both, pass_both}
+use Rattle.hopper.proofs.Refusing.{none_fails, all_pass, untrue, untrue_passes, passed_both, pass_both}
 use Rattle.lineformat.specs.Format.{Line, numbers_of, encode, line_of}
 use Rattle.lineformat.specs.WellFormed.{WellFormedLine}
 use Rattle.lineformat.specs.Checks.{accepts, number_checks, record_checks, room_checks, write_checks}
@@ -18,6 +18,10 @@ accepts_just_the_written bs b =
       written_is_read = λ l w e. (ap accepts (sym e) ∙ accepts_encode l w, ap line_of (sym e) ∙ spelt_encode l w);
     }
 
+-- the law of a file, whose bytes fit their type
+pub file_law : (bs : List ℕ) → ((i : ℕ) → Fits w8 (get_or bs i 0)) → AcceptsJustTheWritten bs
+file_law bs f = accepts_just_the_written bs (λ i. let h = f i in omega arith)
+
 -- a line that passes all checks but the last
 pub formed_line : (l : Line) → passes (number_checks (numbers_of l) (numbers_of l) ++ record_checks l) ≡ true → WellFormedLine l
 formed_line l e =
@@ -30,18 +34,16 @@ writes_just_the_well_formed l room =
     let N = number_checks (numbers_of l) (numbers_of l) in
     record {
       written_is_formed = λ e. (let p = passed_both (N ++ record_checks l) (room_checks l room) e in
-          (formed_line l p.0, ltb-false room (length (encode l)) (none_fails (room_checks l room) p.1).0));
+          (formed_line l p.0, ltb-false room (length (encode l)) (untrue _ _ (none_fails (room_checks l room) p.1).0)));
       formed_is_written = λ w h.
           pass_both (N ++ record_checks l) (room_checks l room)
           (pass_both N (record_checks l) (numbers_pass (numbers_of l) (numbers_of l) w.numbers) (records_pass l w))
-          (all_pass (room_checks l room) (le-ltb room (length (encode l)) h, tt));
+          (all_pass (room_checks l room) (untrue_passes _ _ (le-ltb room (length (encode l)) h), tt));
       reads_back = λ w. (accepts_encode l w, spelt_encode l w);
     }
 
--- the line of an accepted file is written as that file
-pub writes_again : (bs : List ℕ) → AcceptsJustTheWritten bs → accepts bs ≡ true → (l : Line) → l ≡ line_of bs → (passes (write_checks l (length bs)) ≡ true) × (encode l ≡ bs)
-writes_again bs law e l q =
-    let p = law.read_is_written e in
-    let z : encode (line_of bs) ≡ bs = p.1 in
+-- a well-formed line that spells a file is written as that file
+pub writes_again : (bs : List ℕ) → WellFormedLine (line_of bs) → encode (line_of bs) ≡ bs → (l : Line) → l ≡ line_of bs → (passes (write_checks l (length bs)) ≡ true) × (encode l ≡ bs)
+writes_again bs w z l q =
     let s : length (encode (line_of bs)) ≡ length bs = ap length z in
-    (ap (λ x. passes (write_checks x (length bs))) q ∙ (writes_just_the_well_formed (line_of bs) (length bs)).formed_is_written p.0 (omega arith), ap encode q ∙ z)
+    (ap (λ x. passes (write_checks x (length bs))) q ∙ (writes_just_the_well_formed (line_of bs) (length bs)).formed_is_written w (omega arith), ap encode q ∙ z)

@@ -3,47 +3,46 @@ use Rattle.std.proofs.Common.{◌≡◌, ℕ, ◌+◌, ◌-◌, ◌*◌, ◌<◌
 use Rattle.std.specs.List.{slice_get}
 use Rattle.std.proofs.lemmas.Bool.{cond-true, ltb-true, ltb-false, le-ltb, lt-ltb, or_from, or_parts, eqb-false, ne_eqb, not-false}
 use Rattle.hopper.specs.Refusing.{passes}
-use Rattle.hopper.proofs.Refusing.{none_fails, all_pass, passed_both, pass_both}
+use Rattle.hopper.proofs.Refusing.{none_fails, all_pass, untrue, untrue_passes, unfound, unfound_passes, passed_both, pass_both}
 use Rattle.lineformat.specs.declared.MoveRecord.{MoveRecord}
 use Rattle.lineformat.specs.declared.Numbers.{Numbers}
-use Rattle.lineformat.specs.declared.Part.TheVariants.{Places, Letters, Moves}
 use Rattle.lineformat.specs.declared.PlaceRecord.{PlaceRecord}
 use Rattle.lineformat.specs.Limits.{longest_file, trailer_size, only_version, last_kind, last_owner, most_places, most_moves, most_amount, most_top, longest_name, first_letter, last_letter}
-use Rattle.lineformat.specs.Format.{Line, numbers_of, place_of, move_of, line_of, trailer, numbers_in, offsets_in, version_in, distance_in, places_in, moves_in}
+use Rattle.lineformat.specs.Format.{Line, numbers_of, place_of, move_of, line_of, trailer, numbers_in, offsets_in, version_in, distance_in, places_in, moves_in, places_from, moves_from}
 use Rattle.lineformat.specs.WellFormed.{moves_before, letters_before, moves_of, name_of, SoundNumbers, SoundPlace, SoundMove, WellFormedLine}
-use Rattle.lineformat.specs.Checks.{unequal, bad_place, bad_move, is_bad, number_checks, record_checks, size_checks, version_checks, distance_checks, trailer_checks, read_checks, accepts, unpack_checks}
+use Rattle.lineformat.specs.Checks.{unequal, bad_place, bad_letter, bad_move, number_checks, record_checks, size_checks, version_checks, distance_checks, trailer_checks, read_checks, accepts, unpack_checks}
 use Rattle.lineformat.proofs.Tests.{is_none, within, not_outside, equal_no, no_equal, draw_sound, draw_good}
 use Rattle.lineformat.proofs.Scan.{none_is_bad, none_found, sum_front}
-use Rattle.lineformat.proofs.Spelt.{count_places, count_moves, count_names, in_names, nth_part, NameIn}
+use Rattle.lineformat.proofs.Spelt.{count_places, count_moves, count_names, in_names, nth_part, numbers_are, NameIn, PartsOf}
 
 pub numbers_sound : (n spot : Numbers) → passes (number_checks n spot) ≡ true → SoundNumbers n
 unfolding number_checks
 numbers_sound n spot e =
     let p = none_fails (number_checks n spot) e in
-    let ps = not_outside 1 most_places n.places p.1.0 in
-    let ms = not_outside n.places most_moves n.moves p.1.1.0 in
+    let ps = not_outside 1 most_places n.places (untrue _ _ p.1.0) in
+    let ms = not_outside n.places most_moves n.moves (untrue _ _ p.1.1.0) in
     record {
-      kinds = ltb-false last_kind n.kind p.0;
+      kinds = ltb-false last_kind n.kind (untrue _ _ p.0);
       some_place = ps.0;
       few_places = ps.1;
       some_moves = ms.0;
       few_moves = ms.1;
-      low_top = ltb-false most_top n.top p.1.1.1.0;
-      drawn = draw_sound n.kind n.draw p.1.1.1.1.0;
+      low_top = ltb-false most_top n.top (untrue _ _ p.1.1.1.0);
+      drawn = draw_sound n.kind n.draw (untrue _ _ p.1.1.1.1.0);
     }
 
 pub numbers_pass : (n spot : Numbers) → SoundNumbers n → passes (number_checks n spot) ≡ true
 unfolding number_checks
 numbers_pass n spot s =
     all_pass (number_checks n spot) (
-      le-ltb last_kind n.kind s.kinds,
+      untrue_passes _ _ (le-ltb last_kind n.kind s.kinds),
       (
-        within 1 most_places n.places s.some_place s.few_places,
+        untrue_passes _ _ (within 1 most_places n.places s.some_place s.few_places),
         (
-          within n.places most_moves n.moves s.some_moves s.few_moves,
+          untrue_passes _ _ (within n.places most_moves n.moves s.some_moves s.few_moves),
           (
-            le-ltb most_top n.top s.low_top,
-            (draw_good n.kind n.draw s.drawn, tt),
+            untrue_passes _ _ (le-ltb most_top n.top s.low_top),
+            (untrue_passes _ _ (draw_good n.kind n.draw s.drawn), tt),
           ),
         ),
       ),
@@ -62,7 +61,7 @@ pub size_sound : (bs : List ℕ) → passes (size_checks bs) ≡ true → (lengt
 unfolding size_checks
 size_sound bs e =
     let p = none_fails (size_checks bs) e in
-    (ltb-false longest_file (length bs) p.0, ltb-false (length bs) trailer_size p.1.0)
+    (ltb-false longest_file (length bs) (untrue _ _ p.0), ltb-false (length bs) trailer_size (untrue _ _ p.1.0))
 
 pub trailer_sound : (bs : List ℕ) → passes (trailer_checks bs) ≡ true → SoundTrailer bs
 unfolding trailer_checks version_checks distance_checks
@@ -76,10 +75,10 @@ trailer_sound bs e =
     record {
       not_long = s.0;
       not_short = s.1;
-      version = no_equal (version_in bs) only_version v.0;
+      version = no_equal (version_in bs) only_version (untrue _ _ v.0);
       numbers = numbers_sound (numbers_in bs) (offsets_in bs) p3.0;
-      distance = no_equal (distance_in bs) (4 * (moves_in bs + places_in bs)) d.0;
-      inside = ltb-false (trailer bs) (distance_in bs) d.1.0;
+      distance = no_equal (distance_in bs) (4 * (moves_in bs + places_in bs)) (untrue _ _ d.0);
+      inside = ltb-false (trailer bs) (distance_in bs) (untrue _ _ d.1.0);
     }
 
 pub trailer_passes : (bs : List ℕ) → SoundTrailer bs → passes (trailer_checks bs) ≡ true
@@ -87,10 +86,10 @@ unfolding trailer_checks size_checks version_checks distance_checks
 trailer_passes bs s =
     let N = number_checks (numbers_in bs) (offsets_in bs) in
     pass_both (size_checks bs) (version_checks bs ++ (N ++ distance_checks bs))
-    (all_pass (size_checks bs) (le-ltb longest_file (length bs) s.not_long, (le-ltb (length bs) trailer_size s.not_short, tt)))
-    (pass_both (version_checks bs) (N ++ distance_checks bs) (all_pass (version_checks bs) (equal_no (version_in bs) only_version s.version, tt))
+    (all_pass (size_checks bs) (untrue_passes _ _ (le-ltb longest_file (length bs) s.not_long), (untrue_passes _ _ (le-ltb (length bs) trailer_size s.not_short), tt)))
+    (pass_both (version_checks bs) (N ++ distance_checks bs) (all_pass (version_checks bs) (untrue_passes _ _ (equal_no (version_in bs) only_version s.version), tt))
     (pass_both N (distance_checks bs) (numbers_pass (numbers_in bs) (offsets_in bs) s.numbers)
-    (all_pass (distance_checks bs) (equal_no (distance_in bs) (4 * (moves_in bs + places_in bs)) s.distance, (le-ltb (trailer bs) (distance_in bs) s.inside, tt)))))
+    (all_pass (distance_checks bs) (untrue_passes _ _ (equal_no (distance_in bs) (4 * (moves_in bs + places_in bs)) s.distance), (untrue_passes _ _ (le-ltb (trailer bs) (distance_in bs) s.inside), tt)))))
 
 place_sound : (p : PlaceRecord) → bad_place p ≡ false → SoundPlace p
 place_sound p e =
@@ -120,14 +119,14 @@ unfolding record_checks
 well_formed l n e =
     let q = none_fails (record_checks l) e in
     let N = length l.places in
-    let s = or_parts (unequal (moves_before l N) (length l.moves)) (unequal (letters_before l N) (length l.names)) q.1.0 in
+    let s = or_parts (unequal (moves_before l N) (length l.moves)) (unequal (letters_before l N) (length l.names)) (untrue _ _ q.1.0) in
     record {
       numbers = n;
-      each_place = λ p h. place_sound (place_of l p) (none_is_bad (is_bad l Places) N (is_none _ q.0) p h);
+      each_place = λ p h. place_sound (place_of l p) (none_is_bad (λ p. bad_place (place_of l p)) N (is_none _ (unfound _ _ q.0)) p h);
       all_moves = no_equal (moves_before l N) (length l.moves) s.0;
       all_names = no_equal (letters_before l N) (length l.names) s.1;
-      each_letter = λ i h. not_outside first_letter last_letter (get_or l.names i 0) (none_is_bad (is_bad l Letters) (length l.names) (is_none _ q.1.1.0) i h);
-      each_move = λ m h. move_sound N (move_of l m) (none_is_bad (is_bad l Moves) (length l.moves) (is_none _ q.1.1.1.0) m h);
+      each_letter = λ i h. not_outside first_letter last_letter (get_or l.names i 0) (none_is_bad (λ i. bad_letter (get_or l.names i 0)) (length l.names) (is_none _ (unfound _ _ q.1.1.0)) i h);
+      each_move = λ m h. move_sound N (move_of l m) (none_is_bad (λ m. bad_move N (move_of l m)) (length l.moves) (is_none _ (unfound _ _ q.1.1.1.0)) m h);
     }
 
 pub records_pass : (l : Line) → WellFormedLine l → passes (record_checks l) ≡ true
@@ -135,12 +134,12 @@ unfolding record_checks
 records_pass l w =
     let N = length l.places in
     all_pass (record_checks l) (
-      ap is_some (none_found (is_bad l Places) N (λ p h. place_good (place_of l p) (w.each_place p h))),
+      unfound_passes _ _ (ap is_some (none_found (λ p. bad_place (place_of l p)) N (λ p h. place_good (place_of l p) (w.each_place p h)))),
       (
-        or_from (unequal (moves_before l N) (length l.moves)) (unequal (letters_before l N) (length l.names)) (equal_no (moves_before l N) (length l.moves) w.all_moves) (equal_no (letters_before l N) (length l.names) w.all_names),
+        untrue_passes _ _ (or_from (unequal (moves_before l N) (length l.moves)) (unequal (letters_before l N) (length l.names)) (equal_no (moves_before l N) (length l.moves) w.all_moves) (equal_no (letters_before l N) (length l.names) w.all_names)),
         (
-          ap is_some (none_found (is_bad l Letters) (length l.names) (λ i h. within first_letter last_letter (get_or l.names i 0) (w.each_letter i h).0 (w.each_letter i h).1)),
-          (ap is_some (none_found (is_bad l Moves) (length l.moves) (λ m h. move_good N (move_of l m) (w.each_move m h))), tt),
+          unfound_passes _ _ (ap is_some (none_found (λ i. bad_letter (get_or l.names i 0)) (length l.names) (λ i h. within first_letter last_letter (get_or l.names i 0) (w.each_letter i h).0 (w.each_letter i h).1))),
+          (unfound_passes _ _ (ap is_some (none_found (λ m. bad_move N (move_of l m)) (length l.moves) (λ m h. move_good N (move_of l m) (w.each_move m h)))), tt),
         ),
       ),
     )
@@ -160,6 +159,36 @@ accepted_passes bs e = (passed_both (trailer_checks bs) (record_checks (line_of 
 -- the trailer and the line of a file that is accepted
 pub accepted_trailer : (bs : List ℕ) → accepts bs ≡ true → SoundTrailer bs
 accepted_trailer bs e = trailer_sound bs (accepted_passes bs e)
+
+-- a file whose two tables pass is accepted
+pub accepted_of : (bs : List ℕ) → passes (trailer_checks bs) ≡ true → passes (record_checks (line_of bs)) ≡ true → accepts bs ≡ true
+unfolding read_checks
+accepted_of bs e f = pass_both (trailer_checks bs) (record_checks (line_of bs)) e f
+
+-- the parts of a file with a sound trailer
+pub parts_of : (bs : List ℕ) (numbers : Numbers) (first names : ℕ) → SoundTrailer bs → numbers ≡ numbers_in bs → first ≡ places_from bs → names ≡ moves_from bs → PartsOf bs numbers first names
+parts_of bs numbers first names s e f g =
+    let z = numbers_are bs in
+    let ep : numbers.places ≡ places_in bs = ap (λ (n : Numbers). n.places) e in
+    let em : numbers.moves ≡ moves_in bs = ap (λ (n : Numbers). n.moves) e in
+    let cp = count_places bs in
+    let cm = count_moves bs in
+    let cn = count_names bs in
+    let few = s.numbers.few_places in
+    let d = s.distance in
+    let i = s.inside in
+    let room = s.not_short in
+    record {
+      numbers_are = e ∙ z;
+      count_places = omega arith;
+      count_moves = omega arith;
+      count_names = omega arith;
+      first_is = f;
+      names_end = g;
+      few_places = omega arith;
+      moves_end = omega arith;
+      places_end = omega arith;
+    }
 
 line_numbers : (bs : List ℕ) → SoundTrailer bs → SoundNumbers (numbers_of (line_of bs))
 unfolding line_of
@@ -211,4 +240,4 @@ pub tables_fit : (l : Line) (places moves : ℕ) → passes (unpack_checks l pla
 unfolding unpack_checks
 tables_fit l places moves e =
     let p = none_fails (unpack_checks l places moves) e in
-    (ltb-false places (length l.places) p.0, ltb-false moves (length l.moves) p.1.0)
+    (ltb-false places (length l.places) (untrue _ _ p.0), ltb-false moves (length l.moves) (untrue _ _ p.1.0))

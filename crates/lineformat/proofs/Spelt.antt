@@ -1,14 +1,14 @@
 -- The parts of the line that some bytes spell.
-use Rattle.std.proofs.Common.{◌≡◌, ℕ, zero, suc, ◌+◌, ◌-◌, ◌*◌, ◌<◌, ◌≤◌, List, [], ◌∷◌, ◌++◌, length, get_or, take, drop, Some, None, sym, refl, ap, ◌∙◌, le_of_suc-le-suc, not-suc-le-zero, arith}
+use Rattle.std.proofs.Common.{◌≡◌, ℕ, zero, suc, ◌+◌, ◌-◌, ◌*◌, ◌<◌, ◌≤◌, List, [], ◌∷◌, length, get_or, take, drop, is_some, Some, None, sym, refl, ap, ◌∙◌, le_of_suc-le-suc, not-suc-le-zero, arith}
 use Rattle.std.specs.List.{slice_get}
 use Rattle.std.proofs.lemmas.List.FromFn.{length-map-range_with_len, get_or-map-range_with_len}
 use Rattle.std.proofs.lemmas.List.{get_or_past, get_or-take, length-take-le, length-take, drop-take, take-take}
-use Rattle.std.proofs.lemmas.Option.{slice_get_past}
-use Rattle.lineformat.specs.declared.MoveRecord.{MoveRecord}
+use Rattle.std.proofs.lemmas.Bool.{true≢false}
+use Rattle.std.proofs.lemmas.Option.{slice_get-get_or, slice_get_past}
 use Rattle.lineformat.specs.declared.Numbers.{Numbers}
 use Rattle.lineformat.specs.declared.PlaceRecord.{PlaceRecord}
 use Rattle.lineformat.specs.Limits.{most_places, trailer_size}
-use Rattle.lineformat.specs.Format.{Line, place_of, move_of, no_place, no_move, place_at, move_at, records_at, line_of, numbers_of, numbers_in, trailer, places_in, moves_in, places_from, moves_from}
+use Rattle.lineformat.specs.Format.{Line, place_of, no_place, place_at, move_at, records_at, line_of, numbers_of, numbers_in, places_in, moves_in, places_from, moves_from}
 use Rattle.lineformat.specs.WellFormed.{moves_before, moves_of, name_at}
 
 pub count_places : (bs : List ℕ) → length (line_of bs).places ≡ places_in bs
@@ -22,14 +22,6 @@ count_moves bs = length-map-range_with_len (λ i. move_at bs (moves_from bs + i 
 pub count_names : (bs : List ℕ) → length (line_of bs).names ≡ moves_from bs
 unfolding line_of
 count_names bs = length-take-le (moves_from bs) bs (omega arith)
-
-pub one_place : (bs : List ℕ) (p : ℕ) → p < length (line_of bs).places → place_of (line_of bs) p ≡ place_at bs (places_from bs + p * 4)
-unfolding line_of
-one_place bs p h = get_or-map-range_with_len (λ i. place_at bs (places_from bs + i * 4)) 0 (places_in bs) p p no_place (let n = count_places bs in omega arith) (omega arith)
-
-pub one_move : (bs : List ℕ) (m : ℕ) → m < length (line_of bs).moves → move_of (line_of bs) m ≡ move_at bs (moves_from bs + m * 4)
-unfolding line_of
-one_move bs m h = get_or-map-range_with_len (λ i. move_at bs (moves_from bs + i * 4)) 0 (moves_in bs) m m no_move (let n = count_moves bs in omega arith) (omega arith)
 
 pub names_are : (bs : List ℕ) → (line_of bs).names ≡ take (moves_from bs) bs
 unfolding line_of
@@ -74,18 +66,21 @@ pub one_letter : (bs : List ℕ) (i : ℕ) → i < length (line_of bs).names →
 unfolding line_of
 one_letter bs i h = get_or-take (moves_from bs) bs i 0 (let n = count_names bs in omega arith)
 
--- a table filled with the records of the file, from where they begin
-pub records_are_places : (bs : List ℕ) (from n : ℕ) (old : List PlaceRecord) → from ≡ places_from bs → n ≡ length (line_of bs).places
-    → records_at place_at bs from n ++ drop n old ≡ (line_of bs).places ++ drop (length (line_of bs).places) old
+-- the records of the line are those that the file has from where they begin
+pub places_spelt : (bs : List ℕ) → (line_of bs).places ≡ records_at place_at bs (places_from bs) (length (line_of bs).places)
 unfolding line_of
-records_are_places bs from n old e f =
-    ap (λ x. records_at place_at bs x n ++ drop n old) e ∙ ap (λ x. records_at place_at bs (places_from bs) x ++ drop n old) (f ∙ count_places bs) ∙ ap (λ x. (line_of bs).places ++ drop x old) f
+places_spelt bs = ap (records_at place_at bs (places_from bs)) (sym (count_places bs))
 
-pub records_are_moves : (bs : List ℕ) (from n : ℕ) (old : List MoveRecord) → from ≡ moves_from bs → n ≡ length (line_of bs).moves
-    → records_at move_at bs from n ++ drop n old ≡ (line_of bs).moves ++ drop (length (line_of bs).moves) old
+pub moves_spelt : (bs : List ℕ) → (line_of bs).moves ≡ records_at move_at bs (moves_from bs) (length (line_of bs).moves)
 unfolding line_of
-records_are_moves bs from n old e f =
-    ap (λ x. records_at move_at bs x n ++ drop n old) e ∙ ap (λ x. records_at move_at bs (moves_from bs) x ++ drop n old) (f ∙ count_moves bs) ∙ ap (λ x. (line_of bs).moves ++ drop x old) f
+moves_spelt bs = ap (records_at move_at bs (moves_from bs)) (sym (count_moves bs))
+
+-- one of the records from an offset on
+pub one_record : {R : Type 0} (at : List ℕ → ℕ → R) (bs : List ℕ) (from n i : ℕ) (xs : List R) → xs ≡ records_at at bs from n → i < n → slice_get xs i ≡ Some (at bs (from + i * 4))
+one_record at bs from n i xs e h =
+    let f = λ (k : ℕ). at bs (from + k * 4) in
+    let l = length-map-range_with_len f 0 n in
+    ap (λ ys. slice_get ys i) e ∙ slice_get-get_or (records_at at bs from n) i (f i) (omega arith) ∙ ap Some (get_or-map-range_with_len f 0 n i i (f i) h (omega arith))
 
 -- an absent place has no moves
 pub no_moves : (l : Line) (p m : ℕ) → length l.places ≤ p → slice_get (moves_of l p) m ≡ None
@@ -93,18 +88,23 @@ no_moves l p m h =
     let e : place_of l p ≡ no_place = get_or_past l.places p no_place h in
     ap (λ (x : PlaceRecord). slice_get (take x.moves (drop (moves_before l p) l.moves)) m) e
 
--- how many places and moves a file with a sound trailer has, and where its trailer, its places and its moves begin
-pub record PartsOf (bs : List ℕ) (places moves trail first names : ℕ) : Type 0 where
-  pub count_places : places ≡ length (line_of bs).places
-  pub count_moves : moves ≡ length (line_of bs).moves
+-- where there is no item of a number, the list is not that long
+pub absent : {X : Type 0} (xs : List X) (i : ℕ) → slice_get xs i ≡ None → length xs ≤ i
+absent [] i e = omega arith
+absent (x ∷ xs) zero e = absurd (true≢false (ap is_some e))
+absent (x ∷ xs) (suc i) e = let h = absent xs i e in omega arith
+
+-- the numbers of a file with a sound trailer, and where its places and its moves begin
+pub record PartsOf (bs : List ℕ) (numbers : Numbers) (first names : ℕ) : Type 0 where
+  pub numbers_are : numbers ≡ numbers_of (line_of bs)
+  pub count_places : numbers.places ≡ length (line_of bs).places
+  pub count_moves : numbers.moves ≡ length (line_of bs).moves
   pub count_names : names ≡ length (line_of bs).names
-  pub trailer_is : trail ≡ trailer bs
   pub first_is : first ≡ places_from bs
   pub names_end : names ≡ moves_from bs
-  pub few_places : places ≤ most_places
-  pub moves_end : names + moves * 4 ≡ first
-  pub places_end : first + places * 4 ≡ trail
-  pub trailer_end : trail + trailer_size ≡ length bs
+  pub few_places : numbers.places ≤ most_places
+  pub moves_end : names + numbers.moves * 4 ≡ first
+  pub places_end : first + numbers.places * 4 + trailer_size ≡ length bs
 
 -- the bytes of the built-in line
 abbrev pub built_in_file : List ℕ

@@ -2,6 +2,7 @@
 use Rattle.std.proofs.Common.{◌≡◌, ℕ, ◌+◌, ◌-◌, ◌*◌, ◌<◌, ◌≤◌, List, [], ◌∷◌, ◌++◌, map, length, get_or, take, drop, set, sym, refl, ap, ◌∙◌, arith}
 use Rattle.std.specs.List.{flat_map, range_with_len}
 use Rattle.std.proofs.lemmas.List.{append_assoc, append-nil, length-append, length-take-le, take_at, drop_at, drop-drop, take_more, drop_more, set-append_right}
+use Rattle.std.proofs.lemmas.Grind.{flat_map-append}
 use Rattle.std.proofs.lemmas.List.FromFn.{map-range_with_len_more, length-map-range_with_len}
 
 -- a table filled by f up to i, and then at i
@@ -14,10 +15,6 @@ fill_step f o i h =
     let e = map-range_with_len_more f 0 i i (omega arith) in
     let g = append_assoc (map f (range_with_len 0 i)) (f i ∷ []) (drop (i + 1) o) in
     cc
-
-pub joined_append : {X : Type 0} (f : X → List ℕ) (xs ys : List X) → flat_map f (xs ++ ys) ≡ flat_map f xs ++ flat_map f ys
-joined_append f [] ys = refl
-joined_append f (x ∷ xs) ys = ap (λ t. f x ++ t) (joined_append f xs ys) ∙ sym (append_assoc (f x) (flat_map f xs) (flat_map f ys))
 
 pub length_joined : {X : Type 0} (f : X → List ℕ) → ((x : X) → length (f x) ≡ 4) → (xs : List X) → length (flat_map f xs) ≡ length xs * 4
 length_joined f four [] = refl
@@ -38,7 +35,7 @@ put_step f four o base xs i at d h l e s q =
     let d2 : drop (at + 4) s ≡ drop (base + (i + 1) * 4) o =
     sym (drop-drop 4 at s) ∙ ap (drop 4) d1 ∙ drop-drop 4 (base + i * 4) o ∙ ap (λ n. drop n o) (let z : base + i * 4 + 4 ≡ base + (i + 1) * 4 = omega arith in z) in
     let j1 : flat_map f (take (i + 1) xs) ≡ flat_map f (take i xs) ++ f (get_or xs i d) =
-    ap (flat_map f) (take_more xs i d h) ∙ joined_append f (take i xs) (get_or xs i d ∷ []) ∙ ap (λ t. flat_map f (take i xs) ++ t) (append-nil (f (get_or xs i d))) in
+    ap (flat_map f) (take_more xs i d h) ∙ flat_map-append f (take i xs) (get_or xs i d ∷ []) ∙ ap (λ t. flat_map f (take i xs) ++ t) (append-nil (f (get_or xs i d))) in
     let g1 = append_assoc (take base o) (flat_map f (take i xs)) (f (get_or xs i d) ++ drop (base + (i + 1) * 4) o) in
     let g2 = append_assoc (flat_map f (take i xs)) (f (get_or xs i d)) (drop (base + (i + 1) * 4) o) in
     cc

@@ -1,6 +1,6 @@
 -- What reading, filling tables and writing refuse: their checks, in their order.
 use Rattle.std.specs.Prelude.{ℕ, zero, suc, ◌+◌, ◌*◌, Bool, cond, not, ◌||◌, List, [], ◌∷◌, ◌++◌, length, Some, None, Option, ◌==◌, nat_lt, slice_index, unsigned_abs}
-use Rattle.hopper.specs.declared.Check.{Check}
+use Rattle.hopper.specs.Faults.{Check, check, check_at}
 use Rattle.hopper.specs.declared.Layer.TheVariants.{Bytes, File, Line as OfLine, Rest}
 use Rattle.hopper.specs.declared.Refusal.TheVariants.{
   FileTooLong,
@@ -19,12 +19,9 @@ use Rattle.hopper.specs.declared.Refusal.TheVariants.{
   TableTooShort,
   OutputTooShort,
 }
-use Rattle.hopper.specs.Faults.{check, check_at}
 use Rattle.hopper.specs.Refusing.{passes}
 use Rattle.lineformat.specs.declared.MoveRecord.{MoveRecord}
 use Rattle.lineformat.specs.declared.Numbers.{Numbers}
-use Rattle.lineformat.specs.declared.Part.{Part}
-use Rattle.lineformat.specs.declared.Part.TheVariants.{Places, Letters, Moves}
 use Rattle.lineformat.specs.declared.PlaceRecord.{PlaceRecord}
 use Rattle.lineformat.specs.Limits.{longest_file, trailer_size, only_version, last_kind, drawn_kind, last_owner, most_places, most_moves, most_amount, most_top, most_draw, longest_name, first_letter, last_letter}
 use Rattle.lineformat.specs.Format.{Line, numbers_of, place_of, move_of, encode, line_of, trailer, offsets_in, numbers_in, version_in, distance_in}
@@ -54,20 +51,15 @@ bad_letter b = outside first_letter last_letter b
 abbrev pub bad_move : ℕ → MoveRecord → Bool
 bad_move n m = not (nat_lt m.target n) || nat_lt most_amount (unsigned_abs m.amount)
 
--- how many records a part of a line has, and which of them are bad
-abbrev pub size_of : Line → Part → ℕ
-size_of l Places = length l.places
-size_of l Letters = length l.names
-size_of l Moves = length l.moves
+-- the first bad place, letter of a name and move of a line
+abbrev pub first_bad_place : Line → Option ℕ
+first_bad_place l = first_from (λ p. bad_place (place_of l p)) 0 (length l.places)
 
-abbrev pub is_bad : Line → Part → ℕ → Bool
-is_bad l Places p = bad_place (place_of l p)
-is_bad l Letters i = bad_letter (slice_index l.names i)
-is_bad l Moves m = bad_move (length l.places) (move_of l m)
+abbrev pub first_bad_letter : Line → Option ℕ
+first_bad_letter l = first_from (λ i. bad_letter (slice_index l.names i)) 0 (length l.names)
 
--- the first bad record of a part
-abbrev pub first_bad : Line → Part → Option ℕ
-first_bad l part = first_from (is_bad l part) 0 (size_of l part)
+abbrev pub first_bad_move : Line → Option ℕ
+first_bad_move l = first_from (λ m. bad_move (length l.places) (move_of l m)) 0 (length l.moves)
 
 -- the move counts, or the lengths of the names, do not add up
 abbrev pub bad_totals : Line → Bool
@@ -88,10 +80,10 @@ number_checks n spot =
 -- 10 to 13, each over the whole line before the next
 unfoldable pub record_checks : Line → List Check
 record_checks l =
-    check_at (first_bad l Places) BadPlaceRecord OfLine
+    check_at (first_bad_place l) BadPlaceRecord OfLine
     ∷ check (bad_totals l) TotalsDiffer OfLine (length l.places)
-    ∷ check_at (first_bad l Letters) BadNameByte File
-    ∷ check_at (first_bad l Moves) BadMoveRecord OfLine
+    ∷ check_at (first_bad_letter l) BadNameByte File
+    ∷ check_at (first_bad_move l) BadMoveRecord OfLine
     ∷ []
 
 -- 1 and 2: how long a file is

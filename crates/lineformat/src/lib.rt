@@ -2,7 +2,10 @@
 #![tactic(auto)]
 
 ghost use Rattle.std.specs.Prelude.{◌≡◌};
-ghost use Rattle.lineformat.specs.Kinds.{kind_number};
+ghost use Rattle.lineformat.specs.Kinds.{kind_number, KindOf};
+
+use game::Owner;
+use hopper::limits;
 
 // The limits of a line file: its bytes, its trailer and the one version;
 pub const LONGEST_FILE: usize = 25_616;
@@ -10,20 +13,20 @@ pub const LONGEST_FILE: usize = 25_616;
 pub const TRAILER_SIZE: usize = 16;
 
 pub const ONLY_VERSION: u8 = 1;
-// its kinds, of which the last has a draw;
-pub const LAST_KIND: u64 = 2;
+// its kinds, of which the last has a draw (kept as it is: a rule of the project, a number in a file is refused before it names a kind);
+pub const LAST_KIND: u64 = Kind::Drawn as u64;
 
-pub const DRAWN_KIND: u64 = 2;
+pub const DRAWN_KIND: u64 = Kind::Drawn as u64;
 // its places, its moves, and the vessel's top and draw in litres;
 pub const MOST_PLACES: u64 = 256;
 
 pub const MOST_MOVES: u64 = 4_096;
 
-pub const MOST_TOP: u64 = 2_560_000;
+pub const MOST_TOP: u64 = limits::MOST_TOP as u64;
 
-pub const MOST_DRAW: u64 = 10_000;
-// and its records: an owner, a name's length and letters, and a move's litres in or out.
-pub const LAST_OWNER: u8 = 1;
+pub const MOST_DRAW: u64 = limits::MOST_DRAW as u64;
+// and its records: an owner (kept as it is: for the same reason), a name's length and letters, and a move's litres in or out.
+pub const LAST_OWNER: u8 = Owner::Theirs as u8;
 
 pub const LONGEST_NAME: u8 = 32;
 
@@ -31,7 +34,7 @@ pub const FIRST_LETTER: u8 = 32;
 
 pub const LAST_LETTER: u8 = 126;
 
-pub const MOST_AMOUNT: u16 = 10_000;
+pub const MOST_AMOUNT: u16 = limits::MOST_AMOUNT as u16;
 
 // The kind of vessel that a line file names.
 #[derive(Clone, Copy, PartialEq, Eq, Debug)]
@@ -41,16 +44,21 @@ pub enum Kind {
     Drawn = 2,
 }
 
-// A place as a line file has it: the owner's number, the length of the name in bytes, and the number of moves.
+// A number that names no kind.
 #[derive(Clone, Copy, PartialEq, Eq, Debug)]
+pub struct UnknownKind(pub u8);
+
+// A place as a line file has it: the owner's number, the length of the name in bytes, and the number of moves.
+#[derive(Clone, Copy, PartialEq, Eq, Default, Debug)]
 pub struct PlaceRecord {
+    // kept as it is: a rule of the project, a record may have a number of no owner, and writing refuses it
     pub owner: u8,
     pub letters: u8,
     pub moves: u16,
 }
 
 // A move as a line file has it: the number of the place that it leads to, and the litres.
-#[derive(Clone, Copy, PartialEq, Eq, Debug)]
+#[derive(Clone, Copy, PartialEq, Eq, Default, Debug)]
 pub struct MoveRecord {
     pub target: u16,
     pub amount: i16,
@@ -63,22 +71,32 @@ pub struct Numbers {
     pub moves: u64,
     pub top: u64,
     pub draw: u64,
+    // kept as it is: a rule of the project, the number in a file may be of no kind, and reading refuses it
     pub kind: u64,
-}
-
-// The parts of a line that are checked one record after another: the records of its places, the letters of its names, the records of its moves.
-#[derive(Clone, Copy, PartialEq, Eq, Debug)]
-pub enum Part {
-    Places,
-    Letters,
-    Moves,
 }
 
 impl Kind {
     // The number by which a line file names the kind.
+    // kept as it is: no plainer, `u8::from` would not say which number.
     pub fn number(self) -> u8
         ensures { result ≡ kind_number self }
     {
         self as u8
+    }
+}
+
+// The kind that a line file names by a number.
+impl TryFrom<u8> for Kind {
+    type Error = UnknownKind;
+
+    ghost try_from_gives = { KindOf };
+
+    fn try_from(number: u8) -> Result<Self, UnknownKind> {
+        match number {
+            0 => Ok(Kind::Lip),
+            1 => Ok(Kind::Closed),
+            2 => Ok(Kind::Drawn),
+            _ => Err(UnknownKind(number)),
+        }
     }
 }

@@ -19,11 +19,10 @@ sum_near c (negsuc n) lim le = (c - suc n, omega (arith, ints), omega arith, ome
 
 module _ (g : Game) (wf : WellFormed g) (top : ℕ) where
   -- levels that k moves cannot carry below 0 or above the top hold for k moves
-  FarHolds : ℕ → Type 0
+  abbrev FarHolds : ℕ → Type 0
   FarHolds k = (p c : ℕ) → p < g.places → k * most_amount ≤ c → c + k * most_amount ≤ top → Holds g (closed top) k p c
 
   one_more : (k : ℕ) → FarHolds k → FarHolds (suc k)
-  unfolding FarHolds
   one_more k rest p c lt low high = (q, h.1, by q.owner)
     where
       h : (q : Place) × (g.at p ≡ Some q) × SoundPlace g q
@@ -43,6 +42,5 @@ module _ (g : Game) (wf : WellFormed g) (top : ℕ) where
       by Theirs = on
 
   pub far_holds : (k p c : ℕ) → p < g.places → k * most_amount ≤ c → c + k * most_amount ≤ top → Holds g (closed top) k p c
-  unfolding FarHolds
   far_holds zero = λ p c lt low high. tt
   far_holds (suc k) = one_more k (far_holds k)

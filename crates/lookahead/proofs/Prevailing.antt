@@ -1,32 +1,20 @@
--- What a look-ahead begins with, and whom its answer tells to prevail.
-use Rattle.std.proofs.Common.{◌≡◌, ℕ, zero, suc, ◌<◌, Bool, true, false, replicate, is_ok, Ok, Decides, sym, refl, ap, arith}
+-- Whom the answer of a look-ahead tells to prevail.
+use Rattle.std.proofs.Common.{◌≡◌, ℕ, ◌<◌, Bool, true, false, is_ok, Ok, Decides, sym, refl, ap}
 use Rattle.std.proofs.lemmas.Bool.{leb-false, false≢true}
 use Rattle.game.specs.Fill.{Holds}
 use Rattle.game.specs.Game.{WellFormed}
 use Rattle.game.proofs.Force.{held_has_plan, not_held_is_forced}
 use Rattle.hopper.specs.Refusing.{verdict}
-use Rattle.hopper.proofs.Refusing.{none_fails}
+use Rattle.hopper.proofs.Refusing.{none_fails, untrue}
 use Rattle.lineformat.specs.Format.{Line}
 use Rattle.lineformat.specs.Games.{game_of}
-use Rattle.lookahead.specs.declared.Outlook.{Outlook}
-use Rattle.lookahead.specs.declared.Remembered.{Remembered}
 use Rattle.lookahead.specs.Ahead.{own_table, look_checks, TellsWhoPrevails}
-use Rattle.lookahead.specs.Remembering.{AllRight}
-
--- what is remembered before anything was asked: any fill holds for no moves
-abbrev pub nothing_asked : Remembered
-nothing_asked = record { place = 0; level = 0; moves = 0; held = true }
-
--- which is right, as often as it stands there
-pub nothing_is_right : (o : Outlook) (n : ℕ) → AllRight o (replicate n nothing_asked)
-nothing_is_right o zero = tt
-nothing_is_right o (suc n) = ((omega arith, ((λ _. tt), (λ _. refl))), nothing_is_right o n)
 
 -- a question that passes the checks is about a place of the line
 pub passed_place : (l : Line) (place fill k : ℕ) → Ok tt ≡ verdict (look_checks l place fill k) → place < (game_of l).places
 passed_place l place fill k e =
     let n = none_fails (look_checks l place fill k) (sym (ap is_ok e)) in
-    leb-false (game_of l).places place n.0
+    leb-false (game_of l).places place (untrue _ _ n.0)
 
 -- a fill that holds has a plan, one that does not has a reply
 pub tells_who_prevails : (l : Line) → WellFormed (game_of l) → (place fill k : ℕ) → Ok tt ≡ verdict (look_checks l place fill k)

@@ -3,11 +3,10 @@ use Rattle.std.specs.Prelude.{ℕ, Bool, List, [], ◌∷◌, Decides, MatchBool
 use Rattle.game.specs.Fill.{Holds}
 use Rattle.game.specs.Play.{WeHold, OtherSideForces}
 use Rattle.game.specs.Vessel.{Table}
-use Rattle.hopper.specs.declared.Check.{Check}
+use Rattle.hopper.specs.Faults.{Check, check}
 use Rattle.hopper.specs.declared.Fault.{Fault}
 use Rattle.hopper.specs.declared.Layer.TheVariants.{Rest}
 use Rattle.hopper.specs.declared.Refusal.TheVariants.{NoSuchPlace, FillAboveTop, LookTooFar}
-use Rattle.hopper.specs.Faults.{check}
 use Rattle.hopper.specs.Refusing.{Answers}
 use Rattle.lineformat.specs.Format.{Line}
 use Rattle.lineformat.specs.Games.{game_of, table_of}

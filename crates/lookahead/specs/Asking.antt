@@ -1,26 +1,38 @@
 -- What one move does in an outlook.
-use Rattle.std.specs.Prelude.{◌≡◌, ℕ, ◌-◌, ◌<◌, ◌≤◌, Some, None}
+use Rattle.std.specs.Prelude.{◌≡◌, ℕ, ◌-◌, Bool, true, false, Some, None}
 use Rattle.game.specs.declared.Edge.{Edge}
+use Rattle.game.specs.declared.Owner.{Owner}
+use Rattle.game.specs.declared.Owner.TheVariants.{Ours, Theirs}
 use Rattle.hopper.specs.Boards.{step_at}
 use Rattle.lookahead.specs.declared.Outlook.{Outlook}
-use Rattle.lookahead.specs.Remembering.{game_in, top_in, table_in, HoldsIn}
+use Rattle.lookahead.specs.declared.Question.{Question}
+use Rattle.lookahead.specs.Remembering.{game_in, table_in, HoldsIn, OnBoard}
 
--- move m of the place p leads from level c to the place q and the level d, which are in the game and up to the top
-pub record Leads (o : Outlook) (p m c q d : ℕ) : Type 0 where
+-- whether we choose
+abbrev pub is_ours : Owner → Bool
+is_ours Ours = true
+is_ours Theirs = false
+
+-- move m of the question's place leads to the next question, which is on the board and about one move fewer
+pub record Leads (o : Outlook) (q : Question) (m : ℕ) (n : Question) : Type 0 where
   pub edge : Edge
-  pub is : step_at ((game_in o).at p) m ≡ Some edge
-  pub to : edge.target ≡ q
-  pub poured : table_in o c edge.amount ≡ Some d
-  pub place : q < (game_in o).places
-  pub level : d ≤ top_in o
+  pub is : step_at ((game_in o).at q.place) m ≡ Some edge
+  pub to : edge.target ≡ n.place
+  pub poured : table_in o q.level edge.amount ≡ Some n.level
+  pub moves : n.moves ≡ q.moves - 1
+  pub there : OnBoard o n
 
--- the vessel refuses move m of the place p at level c
-pub record Refused (o : Outlook) (p m c : ℕ) : Type 0 where
+-- the vessel refuses move m of the question's place at its level
+pub record Refused (o : Outlook) (q : Question) (m : ℕ) : Type 0 where
   pub edge : Edge
-  pub is : step_at ((game_in o).at p) m ≡ Some edge
-  pub refused : table_in o c edge.amount ≡ None
+  pub is : step_at ((game_in o).at q.place) m ≡ Some edge
+  pub refused : table_in o q.level edge.amount ≡ None
 
--- move m of the place p leads from level c to a fill that holds for one move fewer than k
-abbrev pub LeadsOn : Outlook → ℕ → ℕ → ℕ → ℕ → Type 0
-LeadsOn o k p m c =
-    (e : Edge) × (step_at ((game_in o).at p) m ≡ Some e) × (d : ℕ) × (table_in o c e.amount ≡ Some d) × HoldsIn o (k - 1) e.target d
+-- some move leads from the one question to the other
+abbrev pub SomeLeads : Outlook → Question → Question → Type 0
+SomeLeads o q n = (m : ℕ) × Leads o q m n
+
+-- move m of the question's place leads to a fill that holds for one move fewer
+abbrev pub LeadsOn : Outlook → Question → ℕ → Type 0
+LeadsOn o q m =
+    (e : Edge) × (step_at ((game_in o).at q.place) m ≡ Some e) × (d : ℕ) × (table_in o q.level e.amount ≡ Some d) × HoldsIn o (q.moves - 1) e.target d

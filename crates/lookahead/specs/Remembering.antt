@@ -1,6 +1,6 @@
 -- What an outlook is about, and the answers that it remembers.
-use Rattle.std.specs.Prelude.{ℕ, ◌≤◌, List, Decides}
-use Rattle.std.specs.List.{AllByRecursion}
+use Rattle.std.specs.Prelude.{ℕ, ◌<◌, ◌≤◌, List, Decides}
+use Rattle.std.specs.List.{All}
 use Rattle.game.specs.Fill.{Holds}
 use Rattle.game.specs.Game.{Game}
 use Rattle.game.specs.Vessel.{Table}
@@ -8,6 +8,7 @@ use Rattle.hopper.specs.Any.{any_top, any_table}
 use Rattle.lineformat.specs.Games.{game_of}
 use Rattle.linefile.specs.Held.{held}
 use Rattle.lookahead.specs.declared.Outlook.{Outlook}
+use Rattle.lookahead.specs.declared.Question.{Question}
 use Rattle.lookahead.specs.declared.Remembered.{Remembered}
 
 -- the game of the line
@@ -26,6 +27,15 @@ table_in o = any_table o.vessel
 abbrev pub HoldsIn : Outlook → ℕ → ℕ → ℕ → Type 0
 HoldsIn o = Holds (game_in o) (table_in o)
 
+-- the question is about a place of the game and a level up to the top
+pub record OnBoard (o : Outlook) (q : Question) : Type 0 where
+  pub place : q.place < (game_in o).places
+  pub level : q.level ≤ top_in o
+
+-- its fill holds for as many moves as it asks
+abbrev pub Held : Outlook → Question → Type 0
+Held o q = HoldsIn o q.moves q.place q.level
+
 -- wherever a fill at c holds, one at d holds, if d is up to the top
 abbrev pub HoldsHigher : Outlook → ℕ → ℕ → Type 0
 HoldsHigher o c d = (k p : ℕ) → d ≤ top_in o → HoldsIn o k p c → HoldsIn o k p d
@@ -34,6 +44,10 @@ HoldsHigher o c d = (k p : ℕ) → d ≤ top_in o → HoldsIn o k p c → Holds
 abbrev pub Right : Outlook → Remembered → Type 0
 Right o a = (a.level ≤ top_in o) × Decides a.held (HoldsIn o a.moves a.place a.level)
 
+-- if the answer is right, it answers the question too
+abbrev pub Settles : Outlook → Remembered → Question → Type 0
+Settles o a q = Right o a → Decides a.held (Held o q)
+
 -- all answers that are remembered are right
 abbrev pub AllRight : Outlook → List Remembered → Type 0
-AllRight o known = AllByRecursion (Right o) known
+AllRight o known = ∥ All (Right o) known ∥₁

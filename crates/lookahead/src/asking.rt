@@ -1,36 +1,32 @@
 // The two questions of a look-ahead, put in turn with ever fewer moves.
-ghost use Rattle.std.specs.Prelude.{◌≡◌, ◌<◌, ◌≤◌, true, Some, Decides, MatchOption};
-ghost use Rattle.game.specs.declared.Owner.TheVariants.{Ours, Theirs};
+ghost use Rattle.std.specs.Prelude.{◌≡◌, ◌<◌, ◌≤◌, ◌⊎◌, true, Some, IfSome, Decides, MatchOption};
+ghost use Rattle.std.specs.List.{All};
 ghost use Rattle.hopper.specs.Boards.{owner_at, count_at};
-ghost use Rattle.lookahead.specs.Remembering.{game_in, top_in, HoldsIn, AllRight};
-ghost use Rattle.lookahead.specs.Asking.{Leads, Refused, LeadsOn};
+ghost use Rattle.lookahead.specs.Remembering.{game_in, OnBoard, Held};
+ghost use Rattle.lookahead.specs.Asking.{is_ours, Leads, Refused, SomeLeads, LeadsOn};
 
 use super::remembering::is_ordered;
-use super::{Outlook, Remembered};
+use super::{Memory, Outlook, Question, Turn};
 use game::Owner;
 use hopper::limits::MOST_AMOUNT;
 use hopper::{AnyVessel, Board, Vessel};
 
-// A move of a place and the level that it leads to.
-#[derive(Clone, Copy)]
-struct FirstMove {
-    mv: u32,
-    level: u32,
+// Whether we choose. Then a move that leads on settles a question, and otherwise one that does not.
+fn is_ours(owner: Owner) -> bool
+    ensures { result ≡ is_ours owner }
+{
+    owner == Owner::Ours
 }
 
-// No move: the level is above every top.
-const NO_MOVE: FirstMove = FirstMove {
-    mv: 0,
-    level: 4_294_967_295,
-};
-
-impl FirstMove {
-    // Whether a move to another level is to be asked about in place of this one.
-    fn gives_way(self, level: u32, ours: bool) -> bool {
-        if ours && self.level != NO_MOVE.level {
-            level > self.level
-        } else {
-            level < self.level
+impl Question {
+    // Of this question and the first one about its place so far the one to ask first:
+    // that of the higher level where we choose, of the lower where they do.
+    fn or_sooner(self, first: Option<Question>, owner: Owner) -> Question
+        ensures { (result ≡ self) ⊎ (first ≡ Some result) }
+    {
+        match first {
+            Some(first) if (first.level > self.level) == is_ours(owner) => first,
+            _ => self,
         }
     }
 }
@@ -40,180 +36,127 @@ impl<'x> Outlook<'x> {
     fn count(&self, place: u32) -> u32
         ensures { result ≡ count_at ((game_in self.now).at place) }
     {
-        match Board::moves(self.line, place) {
-            Some(count) => count,
-            None => 0,
-        }
+        Board::moves(self.line, place).unwrap_or(0)
     }
 
-    // The place and the level that a move leads to, or nothing where the vessel refuses it.
-    fn lead(&self, place: u32, mv: u32, level: u32) -> Option<(u32, u32)>
-        requires { mv < count_at ((game_in self.now).at place) }
-        ensures { MatchOption result (Refused self.now place mv level) (λ to. Leads self.now place mv level to.0 to.1) }
+    // The question that a move leads to, with one move fewer, or nothing where the vessel refuses it.
+    fn lead(&self, turn: Turn, mv: u32) -> Option<Question>
+        requires { mv < count_at ((game_in self.now).at turn.question.place) }
+        ensures { MatchOption result (Refused self.now turn.question mv) (λ next. Leads self.now turn.question mv next) }
     {
-        let Some(edge) = Board::step(self.line, place, mv) else {
-            unreachable()
-        };
-        match self.vessel.pour(level, edge.amount) {
-            Some(next) => Some((edge.target, next)),
-            None => None,
-        }
+        let question = turn.question;
+        let edge = Board::step(self.line, question.place, mv).unwrap();
+        let level = self.vessel.pour(question.level, edge.amount)?;
+        Some(Question {
+            moves: question.moves - 1,
+            place: edge.target,
+            level,
+        })
     }
 
     // Whether so many moves cannot reach the bottom or the top of a closed vessel from the level.
-    fn is_far_from_edges(&self, moves: u8, place: u32, level: u32) -> bool
-        requires { place < (game_in self.now).places }
-        ensures { result ≡ true → HoldsIn self.now moves place level }
+    fn is_far_from_edges(&self, question: Question) -> bool
+        requires { OnBoard self.now question }
+        ensures { result ≡ true → Held self.now question }
     {
-        match self.vessel {
-            AnyVessel::OfClosed(closed) => {
-                let reach = u32::from(moves) * MOST_AMOUNT as u32;
-                reach <= level && level <= closed.top().saturating_sub(reach)
-            }
-            _ => false,
-        }
+        let AnyVessel::OfClosed(closed) = self.vessel else {
+            return false;
+        };
+        let reach = u32::from(question.moves) * MOST_AMOUNT as u32;
+        reach <= question.level && question.level <= closed.top().saturating_sub(reach)
     }
 
-    // The move to ask about first for each place that the moves of this place lead to, and the level that it leads to:
-    // the highest where we choose, the lowest where they do.
-    fn first_moves(&self, place: u32, level: u32, ours: bool) -> [FirstMove; 256] {
-        let mut firsts = [NO_MOVE; 256];
-        for mv in 0..self.count(place) {
-            if let Some((target, next)) = self.lead(place, mv, level) {
-                let i = target as usize;
-                if i < firsts.len() && firsts[i].gives_way(next, ours) {
-                    firsts[i] = FirstMove { mv, level: next };
-                }
+    // For each place that the moves of the question's place lead to, which question to ask first:
+    // that of the highest level where we choose, of the lowest where they do.
+    fn first_questions(&self, turn: Turn, owner: Owner) -> [Option<Question>; 256]
+        ensures { All (λ first. IfSome first (λ next. SomeLeads self.now turn.question next)) result }
+    {
+        let mut firsts: [Option<Question>; 256] = [None; 256];
+        // kept as it is: no plainer, a closure for `filter_map` would have to state what `lead` asks and answers
+        for mv in 0..self.count(turn.question.place) {
+            if let Some(next) = self.lead(turn, mv) {
+                let i = next.place as usize;
+                firsts[i] = Some(next.or_sooner(firsts[i], owner));
             }
         }
         firsts
     }
+}
 
-    // Asks about these moves first, and answers one that settles the question of the place.
+impl<'x> Memory<'x> {
+    // Asks first about one move to each place, and says whether one of them settles the question.
     // Over ordered levels what is then remembered answers for all other moves to the same places.
     #[cycle(asking)]
-    fn ask_first(
-        &self,
-        known: &mut [Remembered],
-        moves: u8,
-        place: u32,
-        level: u32,
-        ours: bool,
-    ) -> Option<u32>
-        requires { (1 ≤ moves) × (AllRight self.now known.old) }
-        ensures { AllRight self.now known.new }
+    fn is_settled_first(&mut self, turn: Turn, owner: Owner) -> bool
+        requires { owner_at ((game_in self.old.outlook).at turn.question.place) ≡ Some owner }
+        ensures answer { result ≡ true → Decides (is_ours owner) (Held self.old.outlook turn.question) }
+        ensures same { self.new.outlook ≡ self.old.outlook }
     {
-        if moves < 2 || known.is_empty() || !is_ordered(self.vessel) {
-            return None;
+        if turn.question.moves < 2 || self.known.is_empty() || !is_ordered(self.outlook.vessel) {
+            return false;
         }
-        let firsts = self.first_moves(place, level, ours);
-        for target in 0..Board::places(self.line) {
-            let i = target as usize;
-            if i < firsts.len() && firsts[i].level <= self.vessel.top() {
-                if self.holds(known, moves - 1, target, firsts[i].level) == ours {
-                    return Some(firsts[i].mv);
-                }
-            }
-        }
-        None
-    }
-
-    // Whether a move of the place leads to a fill that holds for one move fewer.
-    #[cycle(asking)]
-    fn leads_on(&self, known: &mut [Remembered], moves: u8, place: u32, mv: u32, level: u32) -> bool
-        requires { (1 ≤ moves) × ((AllRight self.now known.old) × (mv < count_at ((game_in self.now).at place))) }
-        ensures answer { Decides result (LeadsOn self.now moves place mv level) }
-        ensures known { AllRight self.now known.new }
-    {
-        match self.lead(place, mv, level) {
-            Some((target, next)) => self.holds(known, moves - 1, target, next),
-            None => false,
-        }
-    }
-
-    // Whether some move of the place leads on.
-    #[cycle(asking)]
-    fn some_move(&self, known: &mut [Remembered], moves: u8, place: u32, level: u32) -> bool
-        requires asked { (1 ≤ moves) × (AllRight self.now known.old) }
-        requires ours { owner_at ((game_in self.now).at place) ≡ Some Ours }
-        ensures answer { Decides result (HoldsIn self.now moves place level) }
-        ensures known { AllRight self.now known.new }
-    {
-        let count = self.count(place);
-        if let Some(first) = self.ask_first(known, moves, place, level, true) {
-            if first < count && self.leads_on(known, moves, place, first, level) {
-                return true;
-            }
-        }
-        for mv in 0..count {
-            if self.leads_on(known, moves, place, mv, level) {
+        for first in self.outlook.first_questions(turn, owner) {
+            if let Some(next) = first
+                && self.holds(next) == is_ours(owner)
+            {
                 return true;
             }
         }
         false
     }
 
-    // Whether every move of the place leads on.
+    // Whether a move of the question's place leads to a fill that holds for one move fewer.
     #[cycle(asking)]
-    fn every_move(&self, known: &mut [Remembered], moves: u8, place: u32, level: u32) -> bool
-        requires asked { (1 ≤ moves) × (AllRight self.now known.old) }
-        requires theirs { owner_at ((game_in self.now).at place) ≡ Some Theirs }
-        ensures answer { Decides result (HoldsIn self.now moves place level) }
-        ensures known { AllRight self.now known.new }
+    fn leads_on(&mut self, turn: Turn, mv: u32) -> bool
+        requires { mv < count_at ((game_in self.old.outlook).at turn.question.place) }
+        ensures answer { Decides result (LeadsOn self.old.outlook turn.question mv) }
+        ensures same { self.new.outlook ≡ self.old.outlook }
     {
-        let count = self.count(place);
-        if let Some(first) = self.ask_first(known, moves, place, level, false) {
-            if first < count && !self.leads_on(known, moves, place, first, level) {
-                return false;
-            }
+        // kept as it is: no plainer, a closure for `is_some_and` would have to state the contract of `holds` again
+        match self.outlook.lead(turn, mv) {
+            Some(next) => self.holds(next),
+            None => false,
         }
+    }
+
+    // Puts the question of the place's owner: a move that leads on settles it where we choose, one that does not where they do.
+    #[cycle(asking)]
+    fn ask(&mut self, turn: Turn) -> bool
+        requires { OnBoard self.old.outlook turn.question }
+        ensures answer { Decides result (Held self.old.outlook turn.question) }
+        ensures same { self.new.outlook ≡ self.old.outlook }
+    {
+        let place = turn.question.place;
+        let owner = Board::owner(self.outlook.line, place).unwrap();
+        let ours = is_ours(owner);
+        let count = self.outlook.count(place);
+        if self.is_settled_first(turn, owner) {
+            return ours;
+        }
+        // kept as it is: no plainer, each move is asked about in the memory that the others wrote, and a closure would have to state that
         for mv in 0..count {
-            if !self.leads_on(known, moves, place, mv, level) {
-                return false;
+            if self.leads_on(turn, mv) == ours {
+                return ours;
             }
         }
-        true
+        !ours
     }
 
-    // Puts the question of the place's owner, if it is not answered yet.
+    // Whether the question's fill holds: from what is remembered, or else asked and then remembered.
     #[cycle(asking)]
-    fn ask(&self, known: &mut [Remembered], moves: u8, place: u32, level: u32) -> bool
-        requires { (1 ≤ moves) × ((AllRight self.now known.old) × (place < (game_in self.now).places)) }
-        ensures answer { Decides result (HoldsIn self.now moves place level) }
-        ensures known { AllRight self.now known.new }
+    pub(crate) fn holds(&mut self, question: Question) -> bool
+        requires { OnBoard self.old.outlook question }
+        ensures answer { Decides result (Held self.old.outlook question) }
+        ensures same { self.new.outlook ≡ self.old.outlook }
     {
-        let Some(owner) = Board::owner(self.line, place) else {
-            unreachable()
-        };
-        match owner {
-            Owner::Ours => self.some_move(known, moves, place, level),
-            Owner::Theirs => self.every_move(known, moves, place, level),
-        }
-    }
-
-    // Whether the fill at the place holds for so many moves.
-    #[cycle(asking)]
-    pub(crate) fn holds(&self, known: &mut [Remembered], moves: u8, place: u32, level: u32) -> bool
-        requires { (AllRight self.now known.old) × ((place < (game_in self.now).places) × (level ≤ top_in self.now)) }
-        ensures answer { Decides result (HoldsIn self.now moves place level) }
-        ensures known { AllRight self.now known.new }
-    {
-        if moves == 0 || self.is_far_from_edges(moves, place, level) {
+        if question.moves == 0 || self.outlook.is_far_from_edges(question) {
             return true;
         }
-        if let Some(held) = self.recall(known, moves, place, level) {
+        if let Some(held) = self.recall(question) {
             return held;
         }
-        let held = self.ask(known, moves, place, level);
-        self.remember(
-            known,
-            Remembered {
-                place,
-                level,
-                moves,
-                held,
-            },
-        );
+        let held = self.ask(Turn { question });
+        self.remember(question, held);
         held
     }
 }

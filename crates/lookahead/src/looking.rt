@@ -6,11 +6,11 @@ ghost use Rattle.hopper.specs.Refusing.{verdict};
 ghost use Rattle.lineformat.specs.Games.{game_of};
 ghost use Rattle.linefile.specs.Held.{held};
 ghost use Rattle.lookahead.specs.Ahead.{own_table, look_checks, LookAnswers, TellsWhoPrevails};
-ghost use Rattle.lookahead.specs.Remembering.{game_in, top_in, table_in, HoldsIn};
+ghost use Rattle.lookahead.specs.Remembering.{top_in, table_in, OnBoard, Held};
 
 use super::remembering::{NOTHING_ASKED, is_ordered};
-use super::{MOST_AHEAD, Outlook};
-use hopper::{Board, Check, Fault, Layer, Refusal, pass};
+use super::{MOST_AHEAD, Memory, Outlook, Question};
+use hopper::{Board, Fault, Layer, Refusal, check, pass};
 use linefile::FileLine;
 use std::alloc::Global;
 
@@ -18,61 +18,68 @@ use std::alloc::Global;
 const MOST_SLOTS: u32 = 524_288;
 
 // How many numbers of moves there are, from 0 to the most.
-const MOVE_NUMBERS: usize = 7;
+const MOVE_NUMBERS: usize = MOST_AHEAD as usize + 1;
 
-fn check(line: &FileLine, place: u32, fill: u32, k: u32) -> Result<(), Fault>
+fn check_question(line: &FileLine, place: u32, fill: u32, k: u32) -> Result<(), Fault>
     ensures { result ≡ verdict (look_checks (held line.now) place fill k) }
 {
     pass(&[
-        Check::new(
+        check(
             place >= Board::places(line),
             Refusal::NoSuchPlace,
             Layer::Rest,
             place as u64,
         ),
-        Check::new(
+        check(
             fill > line.top(),
             Refusal::FillAboveTop,
             Layer::Rest,
             fill as u64,
         ),
-        Check::new(k > MOST_AHEAD, Refusal::LookTooFar, Layer::Rest, k as u64),
+        check(k > MOST_AHEAD, Refusal::LookTooFar, Layer::Rest, k as u64),
     ])
 }
 
-// A line with its vessel, and memory for two answers about each place where the levels are ordered, else for one about each fill, up to a limit.
-fn outlook<'x>(line: &'x FileLine<'x>) -> Outlook<'x>
-    ensures line { result.line.now ≡ line.now }
-    ensures vessel { (top_in result ≡ (held line.now).top) × (table_in result ≡ own_table (held line.now)) }
-{
-    let vessel = line.vessel();
-    let places = Board::places(line);
-    let apart = if is_ordered(vessel) {
-        2
-    } else {
-        line.top().saturating_add(1).min(MOST_SLOTS / places.max(1))
-    };
-    Outlook {
-        line,
-        vessel,
-        slots: places
-            .saturating_mul(apart)
-            .min(MOST_SLOTS)
-            .next_power_of_two(),
-        apart,
+impl<'x> Outlook<'x> {
+    // A line with its vessel, and memory for two answers about each place where the levels are ordered, else for one about each fill, up to a limit.
+    fn new(line: &'x FileLine<'x>) -> Outlook<'x>
+        ensures line { result.line.now ≡ line.now }
+        ensures top { top_in result ≡ (held line.now).top }
+        ensures table { table_in result ≡ own_table (held line.now) }
+    {
+        let vessel = line.vessel();
+        let places = Board::places(line);
+        let apart = if is_ordered(vessel) {
+            2
+        } else {
+            line.top().saturating_add(1).min(MOST_SLOTS / places.max(1))
+        };
+        Outlook {
+            line,
+            vessel,
+            slots: places
+                .saturating_mul(apart)
+                .min(MOST_SLOTS)
+                .next_power_of_two(),
+            apart,
+        }
     }
 }
 
-impl<'x> Outlook<'x> {
-    // Asks with answers remembered in memory from the heap, or without where it has none.
-    fn answer(&self, heap: Global, k: u8, place: u32, fill: u32) -> bool
-        requires { (place < (game_in self.now).places) × (fill ≤ top_in self.now) }
-        ensures { Decides result (HoldsIn self.now k place fill) }
+impl<'x> Memory<'x> {
+    // The memory of an outlook before anything was asked, from the heap, or none where it has no room.
+    fn new(heap: Global, outlook: Outlook<'x>) -> Memory<'x>
+        ensures { result.outlook ≡ outlook.entry }
     {
-        match vec![in heap; NOTHING_ASKED; self.slots as usize * MOVE_NUMBERS] {
-            Ok(mut known) => self.holds(&mut known, k, place, fill),
-            Err(_) => self.holds(&mut [], k, place, fill),
-        }
+        let slots = outlook.slots as usize * MOVE_NUMBERS;
+        // kept as it is: tried, with `unwrap_or_else` nothing is known of the slots
+        let Ok(known) = vec![in heap; NOTHING_ASKED; slots] else {
+            return Memory {
+                outlook,
+                known: Vec::new(heap),
+            };
+        };
+        Memory { outlook, known }
     }
 }
 
@@ -82,7 +89,11 @@ fn looked<'x>(heap: Global, line: &'x FileLine<'x>, place: u32, fill: u32, k: u3
     ensures holds { Decides result (Holds (game_of (held line.now)) (own_table (held line.now)) k place fill) }
     ensures prevails { TellsWhoPrevails (held line.now) place fill k result }
 {
-    outlook(line).answer(heap, k as u8, place, fill)
+    Memory::new(heap, Outlook::new(line)).holds(Question {
+        moves: k as u8,
+        place,
+        level: fill,
+    })
 }
 
 // Whether the fill holds for the next k moves of the line, over its own vessel.
@@ -96,8 +107,6 @@ pub fn look_ahead(
     ensures answer { LookAnswers (held line.now) place fill k result }
     ensures prevails { Accepted (TellsWhoPrevails (held line.now) place fill k) result }
 {
-    match check(line, place, fill, k) {
-        Err(fault) => Err(fault),
-        Ok(()) => Ok(looked(heap, &*line, place, fill, k)),
-    }
+    check_question(line, place, fill, k)?;
+    Ok(looked(heap, line, place, fill, k))
 }

@@ -1,9 +1,9 @@
 // Answers that are remembered, so that no question has to be asked again.
 ghost use Rattle.std.specs.Prelude.{◌≡◌, ◌≤◌, true, IfSome, Decides};
 ghost use Rattle.lookahead.specs.Ordered.{is_ordered};
-ghost use Rattle.lookahead.specs.Remembering.{top_in, HoldsIn, HoldsHigher, Right, AllRight};
+ghost use Rattle.lookahead.specs.Remembering.{top_in, Held, HoldsHigher, Right, Settles, AllRight};
 
-use super::{Outlook, Remembered};
+use super::{Memory, Outlook, Question, Remembered};
 use hopper::AnyVessel;
 
 // What is remembered before anything was asked: any fill holds for no moves.
@@ -18,11 +18,7 @@ pub(crate) const NOTHING_ASKED: Remembered = Remembered {
 pub(crate) fn is_ordered(vessel: AnyVessel) -> bool
     ensures { result ≡ is_ordered vessel }
 {
-    match vessel {
-        AnyVessel::OfLip(_) => true,
-        AnyVessel::OfClosed(_) => false,
-        AnyVessel::OfDrawn(_) => true,
-    }
+    !matches!(vessel, AnyVessel::OfClosed(_))
 }
 
 impl<'x> Outlook<'x> {
@@ -38,75 +34,75 @@ impl<'x> Outlook<'x> {
     }
 
     // Whether an answer settles a question too: at the same place, for no more moves if it held and no fewer if it did not.
-    fn settles(&self, known: Remembered, moves: u8, place: u32, level: u32) -> bool
-        requires { (Right self.now known) × (level ≤ top_in self.now) }
-        ensures { result ≡ true → Decides known.held (HoldsIn self.now moves place level) }
+    fn settles(&self, known: Remembered, question: Question) -> bool
+        requires { question.level ≤ top_in self.now }
+        ensures { result ≡ true → Settles self.now known question }
     {
-        if known.place != place {
+        if known.place != question.place {
             false
         } else if known.held {
-            moves <= known.moves && self.holds_higher(known.level, level)
+            question.moves <= known.moves && self.holds_higher(known.level, question.level)
         } else {
-            known.moves <= moves && self.holds_higher(level, known.level)
+            known.moves <= question.moves && self.holds_higher(question.level, known.level)
         }
     }
 
     // Where the answer to a question is remembered: for each number of moves, over ordered levels a slot of either answer for each place, else a slot for each fill.
-    fn slot(&self, moves: u8, place: u32, level: u32, held: bool) -> usize {
+    fn slot(&self, question: Question, held: bool) -> usize {
         let part = if is_ordered(self.vessel) {
             held as u32
         } else {
-            level
+            question.level
         };
-        let at = place.wrapping_mul(self.apart).wrapping_add(part) & self.slots.wrapping_sub(1);
-        u32::from(moves).wrapping_mul(self.slots).wrapping_add(at) as usize
+        let at = question.place.wrapping_mul(self.apart).wrapping_add(part)
+            & self.slots.wrapping_sub(1);
+        u32::from(question.moves)
+            .wrapping_mul(self.slots)
+            .wrapping_add(at) as usize
     }
+}
 
+impl<'x> Memory<'x> {
+    // kept as it is: no plainer, the level of a question is in range of the memory that is asked, so its struct would hold that memory.
     // What the slot of a question and an answer says of the question.
-    fn read_slot(
-        &self,
-        known: &[Remembered],
-        moves: u8,
-        place: u32,
-        level: u32,
-        held: bool,
-    ) -> Option<bool>
-        requires { (AllRight self.now known.now) × (level ≤ top_in self.now) }
-        ensures { IfSome result (λ b. Decides b (HoldsIn self.now moves place level)) }
+    fn read_slot(&self, question: Question, held: bool) -> Option<bool>
+        requires { question.level ≤ top_in self.now.outlook }
+        ensures { IfSome result (λ b. Decides b (Held self.now.outlook question)) }
     {
-        let i = self.slot(moves, place, level, held);
-        if i < known.len() && self.settles(known[i], moves, place, level) {
-            Some(known[i].held)
-        } else {
-            None
-        }
+        let known = *self.known.get(self.outlook.slot(question, held))?;
+        self.outlook.settles(known, question).then_some(known.held)
     }
 
     // What is remembered of a question.
-    pub(crate) fn recall(
-        &self,
-        known: &[Remembered],
-        moves: u8,
-        place: u32,
-        level: u32,
-    ) -> Option<bool>
-        requires { (AllRight self.now known.now) × (level ≤ top_in self.now) }
-        ensures { IfSome result (λ b. Decides b (HoldsIn self.now moves place level)) }
+    pub(crate) fn recall(&self, question: Question) -> Option<bool>
+        requires { question.level ≤ top_in self.now.outlook }
+        ensures { IfSome result (λ b. Decides b (Held self.now.outlook question)) }
     {
-        match self.read_slot(known, moves, place, level, true) {
+        // kept as it is: tried, `or` reads both slots and took 40 % longer over closed lines, and a closure for `or_else` is not proved without this contract once more
+        match self.read_slot(question, true) {
             Some(held) => Some(held),
-            None => self.read_slot(known, moves, place, level, false),
+            None => self.read_slot(question, false),
         }
     }
 
     // Remembers an answer, where there is room for it.
-    pub(crate) fn remember(&self, known: &mut [Remembered], answer: Remembered)
-        requires { (AllRight self.now known.old) × (Right self.now answer) }
-        ensures { AllRight self.now known.new }
+    pub(crate) fn remember(&mut self, question: Question, held: bool)
+        requires level { question.level ≤ top_in self.old.outlook }
+        requires answer { Decides held (Held self.old.outlook question) }
+        ensures { self.new.outlook ≡ self.old.outlook }
     {
-        let i = self.slot(answer.moves, answer.place, answer.level, answer.held);
-        if i < known.len() {
-            known[i] = answer;
+        let Question {
+            moves,
+            place,
+            level,
+        } = question;
+        if let Some(slot) = self.known.get_mut(self.outlook.slot(question, held)) {
+            *slot = Remembered {
+                place,
+                level,
+                moves,
+                held,
+            };
         }
     }
 }

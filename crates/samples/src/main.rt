@@ -2,27 +2,20 @@
 #![tactic(auto)]
 
 use gauge::height;
-use hopper::limits::MOST_FILLS;
 use hopper::{AnyVessel, Board};
 use linefile::FileLine;
-use lineformat::LONGEST_FILE;
+use linefile::input::file_bytes;
 use lookahead::{MOST_AHEAD, look_ahead};
 use sheet::closed::{least_marked_good, ordered_move};
 use sheet::{NumberOr, SheetRow, entry_fill};
-use solver::mark;
+use solver::{mark, marks_needed};
 use std::fs::File;
-use std::io::Read;
 use std::{env, io};
 
 // For how many of the next moves a fill holds, as far as looking ahead goes.
 fn moves_held(rt: &HostRuntime, line: &FileLine, place: u32, fill: u32) -> u32 {
-    let mut moves = 0u32;
-    for k in 1..MOST_AHEAD + 1 {
-        if look_ahead(rt.alloc(), line, place, fill, k).unwrap_or(false) {
-            moves = k;
-        }
-    }
-    moves
+    let holds = |k: &u32| look_ahead(rt.alloc(), line, place, fill, *k).unwrap_or(false);
+    (1..=MOST_AHEAD).filter(holds).last().unwrap_or(0)
 }
 
 // The mark of a fill, and how far looking ahead sees it hold.
@@ -62,26 +55,26 @@ fn print_place<'x>(
         place,
         owner,
         fill,
-        height: height(fill.unwrap_or(u32::MAX)).ok(),
+        height: fill.and_then(|litres| height(litres).ok()),
         mv: ordered_move(line, vessel, marks, place, litres),
-        name: std::str::from_utf8(name.letters).unwrap_or(""),
+        name: name.text(),
     };
     println!(rt; "{row}")?;
-    for level in litres.saturating_sub(1)..litres.saturating_add(1) {
+    // kept as it is: no plainer, two levels, and each is printed
+    for level in litres.saturating_sub(1)..=litres {
         print_fill(rt, line, marks, place, level)?;
     }
     Ok(())
 }
 
 fn print_line<'x>(rt: &HostRuntime, line: &'x FileLine, vessel: &'x AnyVessel) -> io::Result<()> {
-    let places = Board::places(line);
-    let fills = (places as u64 * (line.top() as u64 + 1)).min(MOST_FILLS);
-    let mut marks = vec![in rt.alloc(); 0u32; fills as usize + 1]?;
+    let mut marks = vec![in rt.alloc(); 0u32; marks_needed(line, vessel)]?;
     match mark(line, vessel, &mut marks) {
         Err(fault) => println!(rt; "{fault}"),
         Ok(rounds) => {
             println!(rt; "{line} rounds {rounds}")?;
-            for place in 0..places {
+            // kept as it is: no plainer, a line answers by the number of a place
+            for place in 0..Board::places(line) {
                 print_place(rt, line, vessel, &marks, place)?;
             }
             Ok(())
@@ -90,13 +83,10 @@ fn print_line<'x>(rt: &HostRuntime, line: &'x FileLine, vessel: &'x AnyVessel) -
 }
 
 fn print_file(rt: &HostRuntime, path: &str) -> io::Result<()> {
-    let mut file = Vec::new(rt.alloc());
-    let mut input = File::open(rt, path)?.take(LONGEST_FILE as u64 + 1);
-    let _n = input.read_to_end(&mut file)?;
-    let mut line = FileLine::built_in();
-    match line.read(&file) {
+    let file = file_bytes(rt.alloc(), File::open(rt, path)?)?;
+    match FileLine::try_from(file.as_slice()) {
         Err(fault) => println!(rt; "{fault}"),
-        Ok(()) => print_line(rt, &line, &line.vessel()),
+        Ok(line) => print_line(rt, &line, &line.vessel()),
     }
 }
 

@@ -68,5 +68,5 @@ impl<'a> fmt::Display for SheetRow<'a> {
 pub fn entry_fill(entry: u32) -> Option<u32>
     ensures { result ≡ as_entry entry }
 {
-    if entry == NEVER { None } else { Some(entry) }
+    (entry != NEVER).then_some(entry)
 }

@@ -1,5 +1,6 @@
 -- A shift at a good fill is served: one call after another.
-use Rattle.std.proofs.Common.{◌≡◌, ℕ, zero, suc, ◌<◌, ◌≤◌, Bool, true, false, cond, not, ◌&&◌, eqb, List, [], ◌∷◌, ◌++◌, get_or, is_some, is_ok, Some, None, Ok, Err, Option, sym, refl, ap, ◌∙◌, subst, arith}
+use Rattle.std.specs.Bool.{then_some}
+use Rattle.std.proofs.Common.{◌≡◌, ℕ, zero, suc, ◌<◌, ◌≤◌, Bool, true, false, not, ◌&&◌, eqb, List, [], ◌∷◌, ◌++◌, get_or, is_some, is_ok, Some, None, Ok, Err, Option, sym, refl, ap, ◌∙◌, subst, arith}
 use Rattle.std.specs.List.{slice_get}
 use Rattle.std.proofs.lemmas.Bool.{true≢false, false≢true, not-true, not-false, eqb-true, eq-eqb, and_parts}
 use Rattle.game.specs.declared.Edge.{Edge}
@@ -12,13 +13,15 @@ use Rattle.game.specs.Forced.{cell}
 use Rattle.game.specs.Play.{Run, Poured}
 use Rattle.game.proofs.Base.{none_some, some_inj, SomeMove, EachMove, Through}
 use Rattle.game.proofs.Decided.{good_leads_on}
-use Rattle.hopper.specs.declared.Check.{Check}
+use Rattle.hopper.specs.Faults.{Check, check, fault, refusal_number}
 use Rattle.hopper.specs.declared.Fault.{Fault}
+use Rattle.hopper.specs.declared.Layer.TheVariants.{Rest}
+use Rattle.hopper.specs.declared.Refusal.{Refusal}
+use Rattle.hopper.specs.declared.Refusal.TheVariants.{MarksTooShort, NoSuchMove, NotOnBoard, NotTheOpenOrder, OrderStillOpen, PlaceIsOurs, PlaceIsTheirs}
 use Rattle.hopper.specs.Boards.{owner_at, step_at}
-use Rattle.hopper.specs.Faults.{refusal_number}
 use Rattle.hopper.specs.Refusing.{verdict}
 use Rattle.hopper.proofs.Boards.{step_place, step_inside}
-use Rattle.hopper.proofs.Refusing.{none_fails}
+use Rattle.hopper.proofs.Refusing.{none_fails, untrue}
 use Rattle.solver.specs.Entries.{never}
 use Rattle.solver.specs.Marking.{NeverIsGood}
 use Rattle.solver.specs.Planning.{is_theirs}
@@ -32,18 +35,17 @@ use Rattle.shift.specs.Fate.{Harmless, Served}
 use Rattle.shift.proofs.Search.{step_is, none_there, some_there, each_fails}
 
 -- ---- tables whose refusals are harmless
--- each check is harmless, or cannot fail where those before it have passed
-abbrev Safe : List Check → Type 0
-Safe [] = Unit {0}
-Safe (c ∷ cs) = (c.fails ≡ true → Harmless c.fault) × (c.fails ≡ false → Safe cs)
+-- the refusal of such a table is harmless
+record Safe (cs : List Check) : Type 0 where
+  refusal : (f : Fault) → verdict cs ≡ Err f → Harmless f
 
-safe_refusal : (cs : List Check) → Safe cs → (f : Fault) → verdict cs ≡ Err f → Harmless f
-safe_refusal [] safe f is = absurd (true≢false (ap is_ok is))
-safe_refusal (c ∷ cs) safe f is = by c.fails refl is (λ left. safe_refusal cs (safe.1 left) f)
-  where
-    by : (b : Bool) → c.fails ≡ b → cond b (Err c.fault) (verdict cs) ≡ Err f → (c.fails ≡ false → verdict cs ≡ Err f → Harmless f) → Harmless f
-    by true fails is rest = (let same : c.fault ≡ f = cc in subst Harmless same (safe.0 fails))
-    by false fails is rest = rest fails is
+safe_end : Safe []
+safe_end = record { refusal = λ f is. absurd (true≢false (ap is_ok is)) }
+
+-- a check is harmless, or cannot refuse where those before it have passed
+safe_more : (b : Bool) (f : Fault) (cs : List Check) → (b ≡ true → Harmless f) → (b ≡ false → Safe cs) → Safe (then_some b f ∷ cs)
+safe_more true f cs harmless left = record { refusal = λ x is. (let same : f ≡ x = cc in subst Harmless same (harmless refl)) }
+safe_more false f cs harmless left = record { refusal = λ x is. (left refl).refusal x is }
 
 -- any other refusal is harmless
 mild : (f : Fault) → ¬ (refusal_number f.refusal ≡ 33) → ¬ (refusal_number f.refusal ≡ 31) → Harmless f
@@ -170,56 +172,37 @@ module _ (g : Game) (wf : WellFormed g) (top : ℕ) (t : Table) (keeps : Keeps t
         let w = some_there (step_at (g.at s.place) m) there in
         (w.0, w.1, theirs_lead s.place s.level ok.good theirs m w.0 (sym (step_is (g.at s.place) m) ∙ w.1))
 
+    -- a check that refuses with neither of the two
+    mild_more : (r : Refusal) (b : Bool) (n : ℕ) (cs : List Check) → ¬ (refusal_number r ≡ 33) → ¬ (refusal_number r ≡ 31) → (b ≡ false → Safe cs)
+        → Safe (check b r Rest n ∷ cs)
+    mild_more r b n cs no-33 no-31 left = safe_more b (fault r Rest n) cs (λ _. mild (fault r Rest n) no-33 no-31) left
+
     order_safe : Safe (order_checks g top t marks s)
-    order_safe = (
-      λ _. mild _ (λ h. omega arith) (λ h. omega arith),
-      λ _. (
-        λ _. mild _ (λ h. omega arith) (λ h. omega arith),
-        λ _. (
-          λ _. mild _ (λ h. omega arith) (λ h. omega arith),
-          λ _. (
-            λ _. mild _ (λ h. omega arith) (λ h. omega arith),
-            λ ours. (
-              λ fails. absurd (not_lacking s.place s.level ok.good ours (not-true (has_good_move top t marks s.level (g.at s.place)) fails)),
-              λ _. tt,
-            ),
-          ),
-        ),
-      ),
-    )
+    order_safe =
+        mild_more OrderStillOpen _ _ _ (λ h. omega arith) (λ h. omega arith)
+        (λ _. mild_more NotOnBoard _ _ _ (λ h. omega arith) (λ h. omega arith)
+        (λ _. mild_more MarksTooShort _ _ _ (λ h. omega arith) (λ h. omega arith)
+        (λ _. mild_more PlaceIsTheirs _ _ _ (λ h. omega arith) (λ h. omega arith)
+        (λ ours. safe_more _ _ _ (λ fails. absurd (not_lacking s.place s.level ok.good ours (not-true (has_good_move top t marks s.level (g.at s.place)) fails))) (λ _. safe_end)))))
 
     done_safe : (o : Order) → Safe (done_checks g top t s o)
-    done_safe o = (
-      λ _. mild _ (λ h. omega arith) (λ h. omega arith),
-      λ named. (
-        λ _. mild _ (λ h. omega arith) (λ h. omega arith),
-        λ _. (
-          λ _. mild _ (λ h. omega arith) (λ h. omega arith),
-          λ _. (
-            λ _. mild _ (λ h. omega arith) (λ h. omega arith),
-            λ _. (λ fails. absurd (not_refused o.mv (open_leads_on o named) fails), λ _. tt),
-          ),
-        ),
-      ),
-    )
+    done_safe o =
+        mild_more NotTheOpenOrder _ _ _ (λ h. omega arith) (λ h. omega arith)
+        (λ named. mild_more NotOnBoard _ _ _ (λ h. omega arith) (λ h. omega arith)
+        (λ _. mild_more PlaceIsTheirs _ _ _ (λ h. omega arith) (λ h. omega arith)
+        (λ _. mild_more NoSuchMove _ _ _ (λ h. omega arith) (λ h. omega arith)
+        (λ _. safe_more _ _ _ (λ fails. absurd (not_refused o.mv (open_leads_on o named) fails)) (λ _. safe_end)))))
 
     withdrawn_safe : (o : Order) → Safe (withdrawn_checks s o)
-    withdrawn_safe o = (λ _. mild _ (λ h. omega arith) (λ h. omega arith), λ _. tt)
+    withdrawn_safe o = mild_more NotTheOpenOrder _ _ _ (λ h. omega arith) (λ h. omega arith) (λ _. safe_end)
 
     arrived_safe : (m : ℕ) → Safe (arrived_checks g top t s m)
-    arrived_safe m = (
-      λ _. mild _ (λ h. omega arith) (λ h. omega arith),
-      λ _. (
-        λ _. mild _ (λ h. omega arith) (λ h. omega arith),
-        λ _. (
-          λ _. mild _ (λ h. omega arith) (λ h. omega arith),
-          λ theirs. (
-            λ _. mild _ (λ h. omega arith) (λ h. omega arith),
-            λ there. (λ fails. absurd (not_refused m (theirs_leads_on m theirs there) fails), λ _. tt),
-          ),
-        ),
-      ),
-    )
+    arrived_safe m =
+        mild_more OrderStillOpen _ _ _ (λ h. omega arith) (λ h. omega arith)
+        (λ _. mild_more NotOnBoard _ _ _ (λ h. omega arith) (λ h. omega arith)
+        (λ _. mild_more PlaceIsOurs _ _ _ (λ h. omega arith) (λ h. omega arith)
+        (λ theirs. mild_more NoSuchMove _ _ _ (λ h. omega arith) (λ h. omega arith)
+        (λ there. safe_more _ _ _ (λ fails. absurd (not_refused m (theirs_leads_on m theirs there) fails)) (λ _. safe_end)))))
 
     -- what one call does: a harmless answer, and the shift led on
     record Once (e : Event) (s' : Shift) : Type 0 where
@@ -228,7 +211,7 @@ module _ (g : Game) (wf : WellFormed g) (top : ℕ) (t : Table) (keeps : Keeps t
 
     -- it is refused by a safe table
     refused : (cs : List Check) → Safe cs → (f : Fault) → verdict cs ≡ Err f → (f' : Fault) → Some f ≡ Some f' → Harmless f'
-    refused cs safe f is f' same = subst Harmless (some_inj same) (safe_refusal cs safe f is)
+    refused cs safe f is f' same = subst Harmless (some_inj same) (safe.refusal f is)
 
     once : (e : Event) (s' : Shift) → Happens g top t marks s e s' → Once e s'
     once (Ordered (Ok o)) s' a = record {
@@ -238,7 +221,7 @@ module _ (g : Game) (wf : WellFormed g) (top : ℕ) (t : Table) (keeps : Keeps t
     once (Ordered (Err f)) s' a = record { harmless = refused (order_checks g top t marks s) order_safe f a.0; leads = stays s' a.1 }
     once (Done o (Ok u)) s' a = record {
       harmless = λ f h. absurd (none_some h);
-      leads = move_made_lem o.mv (open_leads_on o (none_fails (done_checks g top t s o) (ap is_ok a.0)).0) s' a.1;
+      leads = move_made_lem o.mv (open_leads_on o (untrue _ _ (none_fails (done_checks g top t s o) (ap is_ok a.0)).0)) s' a.1;
     }
     once (Done o (Err x)) s' a = record { harmless = refused (done_checks g top t s o) (done_safe o) x.fault a.0; leads = stays s' a.2 }
     once (Withdrawn o (Ok u)) s' a = record {
@@ -250,7 +233,7 @@ module _ (g : Game) (wf : WellFormed g) (top : ℕ) (t : Table) (keeps : Keeps t
         let passed = none_fails (arrived_checks g top t s m) (ap is_ok a.0) in
         record {
           harmless = λ f h. absurd (none_some h);
-          leads = move_made_lem m (theirs_leads_on m passed.1.1.0 passed.1.1.1.0) s' a.1;
+          leads = move_made_lem m (theirs_leads_on m (untrue _ _ passed.1.1.0) (untrue _ _ passed.1.1.1.0)) s' a.1;
         }
     once (Arrived m (Err f)) s' a = record { harmless = refused (arrived_checks g top t s m) (arrived_safe m) f a.0; leads = stays s' a.1 }
 

@@ -1,5 +1,5 @@
 -- A starting fill tells the whole fate.
-use Rattle.std.proofs.Common.{◌≡◌, ℕ, ◌+◌, ◌*◌, ◌<◌, ◌≤◌, Bool, true, false, cond, ltb, List, length, is_ok, Some, None, Ok, Err, Option, Result, refl, ap, ◌∙◌, subst, arith}
+use Rattle.std.proofs.Common.{◌≡◌, ℕ, ◌+◌, ◌*◌, ◌<◌, ◌≤◌, Bool, true, false, ltb, List, [], ◌∷◌, length, is_ok, Some, None, Ok, Err, Option, Result, refl, ap, ◌∙◌, subst, arith}
 use Rattle.std.proofs.lemmas.Bool.{leb-false, ltb-false, lt-leb, le-ltb, not-false, not_from_true}
 use Rattle.game.specs.Game.{Game, WellFormed}
 use Rattle.game.specs.Vessel.{Table, Keeps}
@@ -13,8 +13,9 @@ use Rattle.game.proofs.Rows.{unique, repeated_row_is_least_good}
 use Rattle.hopper.specs.declared.Fault.{Fault}
 use Rattle.hopper.specs.declared.Layer.TheVariants.{Rest}
 use Rattle.hopper.specs.declared.Refusal.TheVariants.{RowTooShort, RowsKeepChanging}
-use Rattle.hopper.specs.Faults.{fault, refusal_number}
-use Rattle.hopper.proofs.Refusing.{none_fails, all_pass, passes_is}
+use Rattle.hopper.specs.Faults.{check, fault, refusal_number}
+use Rattle.hopper.specs.Refusing.{verdict}
+use Rattle.hopper.proofs.Refusing.{none_fails, all_pass, untrue, untrue_passes, passes_is}
 use Rattle.solver.specs.Entries.{entries}
 use Rattle.solver.specs.Least.{too_short, StillChanging, LeastAnswers, HoldsLeastGood, NeverGivesUp}
 use Rattle.solver.specs.Marking.{mark_checks, MarkAnswers, NeverIsGood}
@@ -36,9 +37,9 @@ module _ (g : Game) (wf : WellFormed g) (top : ℕ) (t : Table) (keeps : Keeps t
   good_start old marks rounds marked number p c s opened es s' h =
       let exact : NeverIsGood g top t marks = never_is_good g wf top t keeps old marks (Ok rounds) marked in
       let passed = none_fails (open_checks g top marks p c) (ap is_ok opened.0) in
-      let inside : p < g.places = leb-false g.places p passed.1.1.0 in
-      let low : c ≤ top = ltb-false top c passed.1.1.1.0 in
-      let good : Good g t p c = called_good g wf top t keeps marks exact p c inside low (not-false (is_good top marks p c) passed.1.1.1.1.0) in
+      let inside : p < g.places = leb-false g.places p (untrue _ _ passed.1.1.0) in
+      let low : c ≤ top = ltb-false top c (untrue _ _ passed.1.1.1.0) in
+      let good : Good g t p c = called_good g wf top t keeps marks exact p c inside low (not-false (is_good top marks p c) (untrue _ _ passed.1.1.1.1.0)) in
       served g wf top t keeps marks exact es (record { number = number; place = p; level = c; opened = None }) s'
       (record { good = good; pending = tt })
       (subst (λ (x : Shift). History g top t marks x es s') opened.1 h)
@@ -51,15 +52,18 @@ module _ (g : Game) (wf : WellFormed g) (top : ℕ) (t : Table) (keeps : Keeps t
       let passed = none_fails (mark_checks g top (length old)) (ap is_ok marked.0) in
       let low : c ≤ top = good_level g wf top t keeps.above p c good in
       let room : ltb (length marks) (g.places * (top + 1) + 1) ≡ false =
-      ap (λ (n : ℕ). ltb n (g.places * (top + 1) + 1)) marked.1.kept.same_length ∙ passed.1.0 in (
+      ap (λ (n : ℕ). ltb n (g.places * (top + 1) + 1)) marked.1.kept.same_length ∙ untrue _ _ passed.1.0 in (
         passes_is (open_checks g top marks p c)
             (all_pass (open_checks g top marks p c) (
               passed.0,
               (
-                room,
+                untrue_passes _ _ room,
                 (
-                  lt-leb g.places p lt,
-                  (le-ltb top c low, (not_from_true (is_good top marks p c) (good_called g wf top t keeps marks exact p c lt low good), tt)),
+                  untrue_passes _ _ (lt-leb g.places p lt),
+                  (
+                    untrue_passes _ _ (le-ltb top c low),
+                    (untrue_passes _ _ (not_from_true (is_good top marks p c) (good_called g wf top t keeps marks exact p c lt low good)), tt),
+                  ),
                 ),
               ),
             )),
@@ -99,7 +103,7 @@ module _ (g : Game) (wf : WellFormed g) (top : ℕ) (t : Table) (keeps : Keeps t
   never_up row row' next next' budget (Ok j) answered = tt
   never_up row row' next next' budget (Err e) answered = λ enough gave-up. by (too_short g (length row) (length next)) answered.refused answered.changing enough gave-up
     where
-      by : (short : Bool) → cond {A = Result (Unit {0}) Fault} short (Err (fault RowTooShort Rest g.places)) (Err (fault RowsKeepChanging Rest budget)) ≡ Err e
+      by : (short : Bool) → verdict (check short RowTooShort Rest g.places ∷ Some (fault RowsKeepChanging Rest budget) ∷ []) ≡ Err e
           → (short ≡ false → StillChanging g top t row row' next next' budget)
           → g.places * (top + 1) ≤ budget → e.refusal ≡ RowsKeepChanging → ⊥
       by true is changing enough gave-up =

@@ -3,7 +3,7 @@ use Rattle.std.specs.Prelude.{◌≡◌, ℕ, List, Some, None, Ok, Err, Option,
 use Rattle.game.specs.declared.Edge.{Edge}
 use Rattle.game.specs.Game.{Game}
 use Rattle.game.specs.Vessel.{Table}
-use Rattle.hopper.specs.declared.Check.{Check}
+use Rattle.hopper.specs.Faults.{Check}
 use Rattle.hopper.specs.declared.Fault.{Fault}
 use Rattle.hopper.specs.Boards.{step_at}
 use Rattle.hopper.specs.Refusing.{verdict, Answers}

@@ -7,7 +7,7 @@ use Rattle.game.specs.Forced.{spill}
 use Rattle.game.specs.Game.{Game}
 use Rattle.game.specs.Limits.{most_fills}
 use Rattle.game.specs.Vessel.{Table}
-use Rattle.hopper.specs.declared.Check.{Check}
+use Rattle.hopper.specs.Faults.{Check, check}
 use Rattle.hopper.specs.declared.Layer.TheVariants.{Rest}
 use Rattle.hopper.specs.declared.Refusal.TheVariants.{
   TooManyFills,
@@ -25,7 +25,6 @@ use Rattle.hopper.specs.declared.Refusal.TheVariants.{
   NoSuchMove,
 }
 use Rattle.hopper.specs.Boards.{owner_at, step_at}
-use Rattle.hopper.specs.Faults.{check}
 use Rattle.solver.specs.Planning.{is_theirs}
 use Rattle.shift.specs.declared.Order.{Order}
 use Rattle.shift.specs.declared.Shift.{Shift}
@@ -66,6 +65,11 @@ place_is_theirs g s = check (is_theirs (owner_at (g.at s.place))) PlaceIsTheirs 
 -- the place is ours
 abbrev pub place_is_ours : Game → Shift → Check
 place_is_ours g s = check (is_ours (owner_at (g.at s.place))) PlaceIsOurs Rest s.place
+
+-- the place belongs to this owner
+abbrev pub place_is : Game → Shift → Owner → Check
+place_is g s Ours = place_is_ours g s
+place_is g s Theirs = place_is_theirs g s
 
 -- no move is poured to a good level
 abbrev pub no_good_move : Game → ℕ → Table → List ℕ → Shift → Check

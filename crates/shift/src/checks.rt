@@ -1,19 +1,19 @@
 // The checks that the calls of a shift share.
 ghost use Rattle.std.specs.Prelude.{◌≡◌};
-ghost use Rattle.solver.specs.Planning.{is_theirs};
-ghost use Rattle.shift.specs.Checks.{is_ours, names, poured_to, marks_too_short, order_still_open, not_on_board, place_is_theirs, place_is_ours, not_the_open_order, no_such_move, vessel_refuses};
+ghost use Rattle.shift.specs.Checks.{names, poured_to, marks_too_short, order_still_open, not_on_board, place_is, not_the_open_order, no_such_move, vessel_refuses};
 
-use super::good::fills;
 use super::{Order, Shift};
 use game::{Edge, Owner};
-use hopper::{Board, Check, Layer, Refusal, Vessel};
+use hopper::{Board, Check, Layer, Refusal, Vessel, check};
+use solver::fills;
 
+// kept as it is: a rule of the project, each call of a shift is shown a board, a vessel and marks anew, and refuses others than it stood on.
 // The marks have no room for the fills and the spill.
 pub(crate) fn marks_too_short<B: Board, V: Vessel>(board: &B, vessel: &V, marks: &[u32]) -> Check
     ensures { result ≡ marks_too_short (B.Board.game board.now) (V.Vessel.top vessel.now) marks.now }
 {
     let needed = fills(board, vessel) + 1;
-    Check::new(
+    check(
         (marks.len() as u64) < needed,
         Refusal::MarksTooShort,
         Layer::Rest,
@@ -21,34 +21,11 @@ pub(crate) fn marks_too_short<B: Board, V: Vessel>(board: &B, vessel: &V, marks:
     )
 }
 
-fn is_theirs(owner: Option<Owner>) -> bool
-    ensures { result ≡ is_theirs owner }
-{
-    match owner {
-        Some(Owner::Theirs) => true,
-        Some(Owner::Ours) => false,
-        None => false,
-    }
-}
-
-fn is_ours(owner: Option<Owner>) -> bool
-    ensures { result ≡ is_ours owner }
-{
-    match owner {
-        Some(Owner::Ours) => true,
-        Some(Owner::Theirs) => false,
-        None => false,
-    }
-}
-
 // The level that the vessel pours the move to.
 pub(crate) fn poured_to<V: Vessel>(vessel: &V, level: u32, edge: Option<Edge>) -> Option<u32>
     ensures { result ≡ poured_to (V.Vessel.table vessel.now) level edge }
 {
-    match edge {
-        Some(edge) => vessel.pour(level, edge.amount),
-        None => None,
-    }
+    vessel.pour(level, edge?.amount)
 }
 
 impl Shift {
@@ -56,7 +33,7 @@ impl Shift {
     pub(crate) fn order_still_open(&self) -> Check
         ensures { result ≡ order_still_open self.now }
     {
-        Check::new(
+        check(
             self.opened.is_some(),
             Refusal::OrderStillOpen,
             Layer::Rest,
@@ -68,7 +45,7 @@ impl Shift {
     pub(crate) fn not_on_board<B: Board, V: Vessel>(&self, board: &B, vessel: &V) -> Check
         ensures { result ≡ not_on_board (B.Board.game board.now) (V.Vessel.top vessel.now) self.now }
     {
-        Check::new(
+        check(
             self.place >= board.places() || self.level > vessel.top(),
             Refusal::NotOnBoard,
             Layer::Rest,
@@ -76,25 +53,17 @@ impl Shift {
         )
     }
 
-    // The place is theirs.
-    pub(crate) fn place_is_theirs<B: Board>(&self, board: &B) -> Check
-        ensures { result ≡ place_is_theirs (B.Board.game board.now) self.now }
+    // The place belongs to this owner.
+    pub(crate) fn place_is<B: Board>(&self, board: &B, owner: Owner) -> Check
+        ensures { result ≡ place_is (B.Board.game board.now) self.now owner }
     {
-        Check::new(
-            is_theirs(board.owner(self.place)),
-            Refusal::PlaceIsTheirs,
-            Layer::Rest,
-            self.place as u64,
-        )
-    }
-
-    // The place is ours.
-    pub(crate) fn place_is_ours<B: Board>(&self, board: &B) -> Check
-        ensures { result ≡ place_is_ours (B.Board.game board.now) self.now }
-    {
-        Check::new(
-            is_ours(board.owner(self.place)),
-            Refusal::PlaceIsOurs,
+        let refusal = match owner {
+            Owner::Ours => Refusal::PlaceIsOurs,
+            Owner::Theirs => Refusal::PlaceIsTheirs,
+        };
+        check(
+            board.owner(self.place) == Some(owner),
+            refusal,
             Layer::Rest,
             self.place as u64,
         )
@@ -104,17 +73,16 @@ impl Shift {
     fn names(&self, order: &Order) -> bool
         ensures { result ≡ names self.now order.now self.now.opened }
     {
-        match self.opened {
-            Some(mv) => order.shift == self.number && order.place == self.place && order.mv == mv,
-            None => false,
-        }
+        self.opened.is_some_and(|mv| {
+            order.shift == self.number && order.place == self.place && order.mv == mv
+        })
     }
 
     // No order is open, or another than this.
     pub(crate) fn not_the_open_order(&self, order: &Order) -> Check
         ensures { result ≡ not_the_open_order self.now order.now }
     {
-        Check::new(
+        check(
             !self.names(order),
             Refusal::NotTheOpenOrder,
             Layer::Rest,
@@ -126,7 +94,7 @@ impl Shift {
     pub(crate) fn no_such_move<B: Board>(&self, board: &B, mv: u32) -> Check
         ensures { result ≡ no_such_move (B.Board.game board.now) self.now mv }
     {
-        Check::new(
+        check(
             board.step(self.place, mv).is_none(),
             Refusal::NoSuchMove,
             Layer::Rest,
@@ -143,7 +111,7 @@ impl Shift {
     ) -> Check
         ensures { result ≡ vessel_refuses (B.Board.game board.now) (V.Vessel.table vessel.now) self.now mv }
     {
-        Check::new(
+        check(
             poured_to(vessel, self.level, board.step(self.place, mv)).is_none(),
             Refusal::VesselRefuses,
             Layer::Rest,

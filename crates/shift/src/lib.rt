@@ -6,11 +6,12 @@ ghost use Rattle.std.specs.Prelude.{◌≡◌};
 use hopper::Fault;
 
 mod checks;
-mod fate;
 mod good;
 mod moving;
 mod opening;
 mod ordering;
+
+pub use good::marked_good;
 
 // A shift: the number that its opener chose, the place and the level where it stands, and the move of its open order.
 #[derive(Drop)]

@@ -6,6 +6,7 @@ ghost use Rattle.shift.specs.Checks.{done_checks, arrived_checks};
 ghost use Rattle.shift.specs.Answers.{moved, DoneAnswers, ArrivedAnswers};
 
 use super::{Order, Returned, Shift};
+use game::Owner;
 use hopper::{Board, Fault, Vessel, pass};
 
 impl Shift {
@@ -21,7 +22,7 @@ impl Shift {
         pass(&[
             self.not_the_open_order(order),
             self.not_on_board(board, vessel),
-            self.place_is_theirs(board),
+            self.place_is(board, Owner::Theirs),
             self.no_such_move(board, order.mv),
             self.vessel_refuses(board, vessel, order.mv),
         ])
@@ -39,7 +40,7 @@ impl Shift {
         pass(&[
             self.order_still_open(),
             self.not_on_board(board, vessel),
-            self.place_is_ours(board),
+            self.place_is(board, Owner::Ours),
             self.no_such_move(board, mv),
             self.vessel_refuses(board, vessel, mv),
         ])
@@ -49,12 +50,12 @@ impl Shift {
     fn go_on<B: Board, V: Vessel>(&mut self, board: &B, vessel: &V, mv: u32)
         ensures { self.new ≡ moved (V.Vessel.table vessel.now) self.old (step_at ((B.Board.game board.now).at self.old.place) mv) }
     {
-        if let Some(edge) = board.step(self.place, mv) {
-            if let Some(poured) = vessel.pour(self.level, edge.amount) {
-                self.place = edge.target;
-                self.level = poured;
-                self.opened = None;
-            }
+        if let Some(edge) = board.step(self.place, mv)
+            && let Some(poured) = vessel.pour(self.level, edge.amount)
+        {
+            self.place = edge.target;
+            self.level = poured;
+            self.opened = None;
         }
     }
 
@@ -67,6 +68,7 @@ impl Shift {
     ) -> Result<(), Returned>
         ensures { DoneAnswers (B.Board.game board.now) (V.Vessel.top vessel.now) (V.Vessel.table vessel.now) order self.old self.new result }
     {
+        // kept as it is: no plainer, the two arms say that the order is handed back or spent, and a `map_err` would move it.
         match self.check_done(board, vessel, &order) {
             Err(fault) => Err(Returned { fault, order }),
             Ok(()) => {

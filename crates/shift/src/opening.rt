@@ -6,11 +6,11 @@ ghost use Rattle.shift.specs.Answers.{OpenAnswers, CloseAnswers};
 ghost use Rattle.shift.specs.Fate.{StartingFillTellsTheWholeFate};
 
 use super::checks::marks_too_short;
-use super::fate::starting_fill_tells_the_whole_fate;
-use super::good::{fills, is_good};
+use super::good::marked_good;
 use super::{Shift, StillOpen};
 use hopper::limits::MOST_FILLS;
-use hopper::{Board, Check, Fault, Layer, Refusal, Vessel, pass};
+use hopper::{Board, Fault, Layer, Refusal, Vessel, check, pass};
+use solver::fills;
 
 // Checks whether a shift can be opened at the place and the fill.
 fn check_open<B: Board, V: Vessel>(
@@ -23,27 +23,27 @@ fn check_open<B: Board, V: Vessel>(
     ensures { result ≡ verdict (open_checks (B.Board.game board.now) (V.Vessel.top vessel.now) marks.now place fill) }
 {
     pass(&[
-        Check::new(
+        check(
             fills(board, vessel) > MOST_FILLS,
             Refusal::TooManyFills,
             Layer::Rest,
             vessel.top() as u64,
         ),
         marks_too_short(board, vessel, marks),
-        Check::new(
+        check(
             place >= board.places(),
             Refusal::NoSuchPlace,
             Layer::Rest,
             place as u64,
         ),
-        Check::new(
+        check(
             fill > vessel.top(),
             Refusal::FillAboveTop,
             Layer::Rest,
             fill as u64,
         ),
-        Check::new(
-            !is_good(vessel, marks, place, fill),
+        check(
+            !marked_good(marks, vessel.top(), place, fill),
             Refusal::FillNotGood,
             Layer::Rest,
             place as u64,
@@ -64,7 +64,6 @@ impl Shift {
         ensures answer { OpenAnswers (B.Board.game board.now) (V.Vessel.top vessel.now) marks.now number place fill result }
         ensures fate { StartingFillTellsTheWholeFate }
     {
-        starting_fill_tells_the_whole_fate();
         check_open(board, vessel, marks, place, fill)?;
         Ok(Shift {
             number,
@@ -78,6 +77,7 @@ impl Shift {
     pub fn close(self) -> Result<(u32, u32), StillOpen>
         ensures { CloseAnswers self result }
     {
+        // kept as it is: no plainer, a `map_err` would move the shift that the accepted answer is read off.
         match pass(&[self.order_still_open()]) {
             Err(fault) => Err(StillOpen { fault, shift: self }),
             Ok(()) => Ok((self.place, self.level)),

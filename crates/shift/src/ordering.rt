@@ -1,14 +1,16 @@
 // Orders: given out for the first good move, and withdrawn.
-ghost use Rattle.std.specs.Prelude.{◌≡◌, true, Some};
+ghost use Rattle.std.specs.Prelude.{◌≡◌, true};
 ghost use Rattle.hopper.specs.Accepting.{Accepted};
+ghost use Rattle.hopper.specs.Boards.{step_at};
 ghost use Rattle.hopper.specs.Refusing.{Answers};
-ghost use Rattle.shift.specs.Good.{FirstGoodMove};
+ghost use Rattle.shift.specs.Good.{is_good_step, FirstGoodMove};
 ghost use Rattle.shift.specs.Checks.{names, order_checks};
-ghost use Rattle.shift.specs.Answers.{order_for, OrderAnswers, WithdrawnAnswers};
+ghost use Rattle.shift.specs.Answers.{OrderAnswers, WithdrawnAnswers};
 
 use super::checks::marks_too_short;
 use super::good::pours_good;
 use super::{Order, Returned, Shift};
+use game::Owner;
 use hopper::{Board, Fault, Layer, Refusal, Vessel, pass};
 
 impl Order {
@@ -23,6 +25,21 @@ impl Order {
 }
 
 impl Shift {
+    // Whether the place has this move, and the vessel pours it to a good level.
+    fn is_good_move<B: Board, V: Vessel>(
+        &self,
+        board: &B,
+        vessel: &V,
+        marks: &[u32],
+        mv: u32,
+    ) -> bool
+        ensures { result ≡ is_good_step (V.Vessel.top vessel.now) (V.Vessel.table vessel.now) marks.now self.now.level (step_at ((B.Board.game board.now).at self.now.place) mv) }
+    {
+        board
+            .step(self.place, mv)
+            .is_some_and(|edge| pours_good(vessel, marks, self.level, edge))
+    }
+
     // The number of the first move that the vessel pours to a good level, where an order can be given out.
     fn first_good<B: Board, V: Vessel>(
         &self,
@@ -36,23 +53,15 @@ impl Shift {
             self.order_still_open(),
             self.not_on_board(board, vessel),
             marks_too_short(board, vessel, marks),
-            self.place_is_theirs(board),
+            self.place_is(board, Owner::Theirs),
         ])?;
-        let mut m = 0;
-        let found = loop {
-            let Some(edge) = board.step(self.place, m) else {
-                return Err(Fault {
-                    refusal: Refusal::NoGoodMove,
-                    layer: Layer::Rest,
-                    spot: self.place as u64,
-                });
-            };
-            if pours_good(vessel, marks, self.level, edge) {
-                break m;
-            }
-            m += 1;
-        };
-        Ok(found)
+        (0..board.moves(self.place).unwrap_or(0))
+            .find(|&m| self.is_good_move(board, vessel, marks, m))
+            .ok_or(Fault {
+                refusal: Refusal::NoGoodMove,
+                layer: Layer::Rest,
+                spot: self.place as u64,
+            })
     }
 
     // Gives out the first move, in number order, that the vessel pours to a good level.
@@ -67,7 +76,6 @@ impl Shift {
     {
         let mv = self.first_good(board, vessel, marks)?;
         self.opened = Some(mv);
-        self.is_open(mv);
         Ok(Order {
             shift: self.number,
             place: self.place,
@@ -75,18 +83,11 @@ impl Shift {
         })
     }
 
-    // The order for the open move is the open order.
-    fn is_open(&self, mv: u32)
-        requires { self.now.opened ≡ Some mv }
-        ensures { names self.now (order_for self.now mv) self.now.opened ≡ true }
-    {
-        let _place = self.place;
-    }
-
     // Takes the open order back, and stays at place and level.
     pub fn withdrawn(&mut self, order: Order) -> Result<(), Returned>
         ensures { WithdrawnAnswers order self.old self.new result }
     {
+        // kept as it is: no plainer, the two arms say that the order is handed back or spent, and a `map_err` would move it.
         match pass(&[self.not_the_open_order(&order)]) {
             Err(fault) => Err(Returned { fault, order }),
             Ok(()) => {

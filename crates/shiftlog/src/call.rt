@@ -17,45 +17,31 @@ pub(crate) enum ShiftCall {
 
 // The number that a word is, where there is a word and it is one.
 fn number(word: Option<&str>) -> Option<u32> {
-    match word {
-        Some(digits) => digits.parse::<u32>().ok(),
-        None => None,
-    }
+    word?.parse().ok()
 }
 
 // The call that a line is, if it is one: its name, and as many numbers as it takes.
 pub(crate) fn read(text: &str) -> Option<Call> {
     let mut words = text.split_whitespace();
-    let name = words.next()?;
-    let call = if name == "ahead" {
-        Call::Ahead {
+    let call = match words.next()? {
+        "ahead" => Call::Ahead {
             place: number(words.next())?,
             fill: number(words.next())?,
             k: number(words.next())?,
-        }
-    } else if name == "open" {
-        Call::OfShift(ShiftCall::Open {
+        },
+        "open" => Call::OfShift(ShiftCall::Open {
             number: number(words.next())?,
             place: number(words.next())?,
             fill: number(words.next())?,
-        })
-    } else if name == "order" {
-        Call::OfShift(ShiftCall::Order)
-    } else if name == "done" {
-        Call::OfShift(ShiftCall::Done)
-    } else if name == "withdrawn" {
-        Call::OfShift(ShiftCall::Withdrawn)
-    } else if name == "arrived" {
-        Call::OfShift(ShiftCall::Arrived {
+        }),
+        "order" => Call::OfShift(ShiftCall::Order),
+        "done" => Call::OfShift(ShiftCall::Done),
+        "withdrawn" => Call::OfShift(ShiftCall::Withdrawn),
+        "arrived" => Call::OfShift(ShiftCall::Arrived {
             mv: number(words.next())?,
-        })
-    } else if name == "close" {
-        Call::OfShift(ShiftCall::Close)
-    } else {
-        return None;
+        }),
+        "close" => Call::OfShift(ShiftCall::Close),
+        _ => return None,
     };
-    match words.next() {
-        Some(_) => None,
-        None => Some(call),
-    }
+    words.next().is_none().then_some(call)
 }

@@ -3,10 +3,18 @@ ghost use Rattle.std.specs.Prelude.{◌≡◌, true};
 ghost use Rattle.shift.specs.Checks.{names};
 
 use crate::call::ShiftCall;
-use crate::said::{Answer, Said};
-use hopper::{AnyVessel, Fault};
+use crate::said::{Answer, Position, Refused, Said};
+use hopper::AnyVessel;
 use linefile::FileLine;
 use shift::{Order, Returned, Shift, StillOpen};
+
+// What the calls are made on: a line, its vessel, and the marks of its fills.
+#[derive(Clone, Copy)]
+pub(crate) struct Bench<'x, 'f, 'm> {
+    pub(crate) line: &'x FileLine<'f>,
+    pub(crate) vessel: &'x AnyVessel,
+    pub(crate) marks: &'m [u32],
+}
 
 // A shift and its open order.
 pub(crate) struct Pair {
@@ -16,231 +24,148 @@ pub(crate) struct Pair {
 }
 
 // No shift, or a shift without an order, or a shift with its open order.
+// kept as it is: no plainer, which of the three holds decides which refusal is impossible, and an order cannot be dropped.
 pub(crate) enum Desk {
     Closed,
     Standing(Shift),
     Ordered(Pair),
 }
 
-// The answer of a call that leaves this shift.
-fn at(shift: &Shift, said: Said) -> Answer {
-    Answer {
-        said,
-        at: Some((shift.place(), shift.level())),
+// How a desk was cleared: whether its order was withdrawn, and where its shift was closed.
+#[derive(Clone, Copy)]
+pub(crate) struct Ended {
+    pub(crate) withdrawn: bool,
+    pub(crate) at: Position,
+}
+
+impl<'x, 'f, 'm> Bench<'x, 'f, 'm> {
+    fn open(self, number: u32, place: u32, fill: u32) -> (Desk, Answer) {
+        match Shift::open(number, self.line, self.vessel, self.marks, place, fill) {
+            Ok(shift) => standing(shift, Ok(Said::Opened)),
+            Err(fault) => (Desk::Closed, Answer::unmade(Err(fault.into()))),
+        }
+    }
+
+    fn order(self, mut shift: Shift) -> (Desk, Answer) {
+        match shift.order(self.line, self.vessel, self.marks) {
+            Ok(order) => {
+                let said = Said::Ordered { mv: order.mv() };
+                Pair { shift, order }.ordered(Ok(said))
+            }
+            Err(fault) => standing(shift, Err(fault.into())),
+        }
+    }
+
+    fn arrived(self, mut shift: Shift, mv: u32) -> (Desk, Answer) {
+        let answer = shift.arrived(self.line, self.vessel, mv);
+        standing(shift, answer.map(|()| Said::Arrived).map_err(Refused::from))
     }
 }
 
-// The answer of a call that was not made on a shift.
-pub(crate) fn unmade(said: Said) -> Answer {
-    Answer { said, at: None }
-}
-
-fn open<'x>(
-    line: &'x FileLine,
-    vessel: &'x AnyVessel,
-    marks: &[u32],
-    number: u32,
-    place: u32,
-    fill: u32,
-) -> (Desk, Answer) {
-    match Shift::open(number, line, vessel, marks, place, fill) {
-        Err(fault) => (Desk::Closed, unmade(Said::Refused(fault))),
-        Ok(shift) => {
-            let answer = at(&shift, Said::Opened);
-            (Desk::Standing(shift), answer)
-        }
-    }
-}
-
-fn order<'x>(
-    mut shift: Shift,
-    line: &'x FileLine,
-    vessel: &'x AnyVessel,
-    marks: &[u32],
-) -> (Desk, Answer) {
-    match shift.order(line, vessel, marks) {
-        Err(fault) => {
-            let answer = at(&shift, Said::Refused(fault));
-            (Desk::Standing(shift), answer)
-        }
-        Ok(order) => {
-            let answer = at(&shift, Said::Ordered { mv: order.mv() });
-            (Desk::Ordered(Pair { shift, order }), answer)
-        }
-    }
-}
-
-fn arrived<'x>(
-    mut shift: Shift,
-    line: &'x FileLine,
-    vessel: &'x AnyVessel,
-    mv: u32,
-) -> (Desk, Answer) {
-    let said = match shift.arrived(line, vessel, mv) {
-        Ok(()) => Said::Arrived,
-        Err(fault) => Said::Refused(fault),
-    };
-    let answer = at(&shift, said);
+// A call that leaves this shift without an order.
+fn standing(shift: Shift, said: Result<Said, Refused>) -> (Desk, Answer) {
+    let answer = Answer::made(&shift, said);
     (Desk::Standing(shift), answer)
 }
 
 fn close(shift: Shift) -> (Desk, Answer) {
     match shift.close() {
-        Ok(place_and_level) => (
+        Ok(at) => (
             Desk::Closed,
             Answer {
-                said: Said::Closed,
-                at: Some(place_and_level),
+                said: Ok(Said::Closed),
+                at: Some(at.into()),
             },
         ),
-        Err(StillOpen { fault, shift }) => {
-            let answer = at(&shift, Said::Refused(fault));
-            (Desk::Standing(shift), answer)
-        }
+        Err(StillOpen { fault, shift }) => standing(shift, Err(fault.into())),
     }
 }
 
 impl Pair {
-    // Where the call was refused and the pair stays.
-    fn refused(self, fault: Fault) -> (Desk, Answer) {
-        let answer = at(&self.shift, Said::Refused(fault));
+    // A call that leaves this shift with its order.
+    fn ordered(self, said: Result<Said, Refused>) -> (Desk, Answer) {
+        let answer = Answer::made(&self.shift, said);
         (Desk::Ordered(self), answer)
     }
 
-    fn done<'x>(self, line: &'x FileLine, vessel: &'x AnyVessel) -> (Desk, Answer) {
+    fn done(self, bench: Bench) -> (Desk, Answer) {
         let Pair { mut shift, order } = self;
-        match shift.done(line, vessel, order) {
-            Ok(()) => {
-                let answer = at(&shift, Said::Done);
-                (Desk::Standing(shift), answer)
-            }
-            Err(Returned { fault, order }) => Pair { shift, order }.refused(fault),
+        match shift.done(bench.line, bench.vessel, order) {
+            Ok(()) => standing(shift, Ok(Said::Done)),
+            Err(Returned { fault, order }) => Pair { shift, order }.ordered(Err(fault.into())),
         }
     }
 
     // Takes the order back. It is the open one, so it cannot be refused.
     fn withdraw(self) -> Shift {
         let Pair { mut shift, order } = self;
-        match shift.withdrawn(order) {
-            Ok(()) => shift,
-            Err(_returned) => unreachable(),
-        }
-    }
-
-    fn withdrawn(self) -> (Desk, Answer) {
-        let shift = self.withdraw();
-        let answer = at(&shift, Said::Withdrawn);
-        (Desk::Standing(shift), answer)
+        shift.withdrawn(order).unwrap();
+        shift
     }
 
     // Another order, while this one is open: refused.
-    fn order<'x>(self, line: &'x FileLine, vessel: &'x AnyVessel, marks: &[u32]) -> (Desk, Answer) {
+    fn order(self, bench: Bench) -> (Desk, Answer) {
         let Pair { mut shift, order } = self;
-        match shift.order(line, vessel, marks) {
-            Ok(_second) => unreachable(),
-            Err(fault) => Pair { shift, order }.refused(fault),
-        }
+        let fault = shift
+            .order(bench.line, bench.vessel, bench.marks)
+            .unwrap_err();
+        Pair { shift, order }.ordered(Err(fault.into()))
     }
 
     // A move of the other side, while an order is open: refused.
-    fn arrived<'x>(self, line: &'x FileLine, vessel: &'x AnyVessel, mv: u32) -> (Desk, Answer) {
+    fn arrived(self, bench: Bench, mv: u32) -> (Desk, Answer) {
         let Pair { mut shift, order } = self;
-        match shift.arrived(line, vessel, mv) {
-            Ok(()) => unreachable(),
-            Err(fault) => Pair { shift, order }.refused(fault),
-        }
+        let fault = shift.arrived(bench.line, bench.vessel, mv).unwrap_err();
+        Pair { shift, order }.ordered(Err(fault.into()))
     }
 
     // The close of a shift whose order is open: refused.
     fn close(self) -> (Desk, Answer) {
         let Pair { shift, order } = self;
-        match shift.close() {
-            Ok(_) => unreachable(),
-            Err(StillOpen { fault, shift }) => Pair { shift, order }.refused(fault),
+        let StillOpen { fault, shift } = shift.close().unwrap_err();
+        Pair { shift, order }.ordered(Err(fault.into()))
+    }
+}
+
+impl Desk {
+    // Makes a call.
+    pub(crate) fn step(self, bench: Bench, call: ShiftCall) -> (Desk, Answer) {
+        match (self, call) {
+            (
+                Desk::Closed,
+                ShiftCall::Open {
+                    number,
+                    place,
+                    fill,
+                },
+            ) => bench.open(number, place, fill),
+            (Desk::Closed, _) => (Desk::Closed, Answer::unmade(Err(Refused::NoShift))),
+            (desk, ShiftCall::Open { .. }) => (desk, Answer::unmade(Err(Refused::ShiftIsOpen))),
+            (Desk::Standing(shift), ShiftCall::Order) => bench.order(shift),
+            (Desk::Standing(shift), ShiftCall::Arrived { mv }) => bench.arrived(shift, mv),
+            (Desk::Standing(shift), ShiftCall::Close) => close(shift),
+            (Desk::Standing(shift), ShiftCall::Done | ShiftCall::Withdrawn) => (
+                Desk::Standing(shift),
+                Answer::unmade(Err(Refused::NoOrder)),
+            ),
+            (Desk::Ordered(pair), ShiftCall::Order) => pair.order(bench),
+            (Desk::Ordered(pair), ShiftCall::Done) => pair.done(bench),
+            (Desk::Ordered(pair), ShiftCall::Withdrawn) => {
+                standing(pair.withdraw(), Ok(Said::Withdrawn))
+            }
+            (Desk::Ordered(pair), ShiftCall::Arrived { mv }) => pair.arrived(bench, mv),
+            (Desk::Ordered(pair), ShiftCall::Close) => pair.close(),
         }
     }
-}
 
-// A call while no shift is open.
-fn step_closed<'x>(
-    line: &'x FileLine,
-    vessel: &'x AnyVessel,
-    marks: &[u32],
-    call: ShiftCall,
-) -> (Desk, Answer) {
-    match call {
-        ShiftCall::Open {
-            number,
-            place,
-            fill,
-        } => open(line, vessel, marks, number, place, fill),
-        _ => (Desk::Closed, unmade(Said::NoShift)),
-    }
-}
-
-// A call while a shift is open and no order is.
-fn step_standing<'x>(
-    shift: Shift,
-    line: &'x FileLine,
-    vessel: &'x AnyVessel,
-    marks: &[u32],
-    call: ShiftCall,
-) -> (Desk, Answer) {
-    match call {
-        ShiftCall::Open {
-            number: _,
-            place: _,
-            fill: _,
-        } => (Desk::Standing(shift), unmade(Said::ShiftIsOpen)),
-        ShiftCall::Order => order(shift, line, vessel, marks),
-        ShiftCall::Arrived { mv } => arrived(shift, line, vessel, mv),
-        ShiftCall::Close => close(shift),
-        _ => (Desk::Standing(shift), unmade(Said::NoOrder)),
-    }
-}
-
-// A call while an order is open.
-fn step_ordered<'x>(
-    pair: Pair,
-    line: &'x FileLine,
-    vessel: &'x AnyVessel,
-    marks: &[u32],
-    call: ShiftCall,
-) -> (Desk, Answer) {
-    match call {
-        ShiftCall::Open {
-            number: _,
-            place: _,
-            fill: _,
-        } => (Desk::Ordered(pair), unmade(Said::ShiftIsOpen)),
-        ShiftCall::Order => pair.order(line, vessel, marks),
-        ShiftCall::Done => pair.done(line, vessel),
-        ShiftCall::Withdrawn => pair.withdrawn(),
-        ShiftCall::Arrived { mv } => pair.arrived(line, vessel, mv),
-        ShiftCall::Close => pair.close(),
-    }
-}
-
-// Makes a call.
-pub(crate) fn step<'x>(
-    desk: Desk,
-    line: &'x FileLine,
-    vessel: &'x AnyVessel,
-    marks: &[u32],
-    call: ShiftCall,
-) -> (Desk, Answer) {
-    match desk {
-        Desk::Closed => step_closed(line, vessel, marks, call),
-        Desk::Standing(shift) => step_standing(shift, line, vessel, marks, call),
-        Desk::Ordered(pair) => step_ordered(pair, line, vessel, marks, call),
-    }
-}
-
-// Withdraws the order that is still open and closes the shift: whether there was an order, and where the shift stood.
-pub(crate) fn end(desk: Desk) -> (bool, Option<(u32, u32)>) {
-    match desk {
-        Desk::Closed => (false, None),
-        Desk::Standing(shift) => (false, shift.close().ok()),
-        Desk::Ordered(pair) => (true, pair.withdraw().close().ok()),
+    // Withdraws the order that is still open and closes the shift.
+    pub(crate) fn end(self) -> Option<Ended> {
+        let (withdrawn, shift) = match self {
+            Desk::Closed => return None,
+            Desk::Standing(shift) => (false, shift),
+            Desk::Ordered(pair) => (true, pair.withdraw()),
+        };
+        let at = shift.close().ok()?.into();
+        Some(Ended { withdrawn, at })
     }
 }

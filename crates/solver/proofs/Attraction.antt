@@ -1,5 +1,6 @@
 -- The marks before, between and after the rounds.
-use Rattle.std.proofs.Common.{◌≡◌, ℕ, suc, ◌+◌, ◌<◌, ◌≤◌, Bool, true, false, cond, eqb, ◌⊎◌, List, length, get_or, set, Some, sym, refl, ap, ◌∙◌, inl, inr, arith, get_or-set_other, get_or-set_same}
+use Rattle.std.proofs.Common.{◌≡◌, ℕ, suc, ◌+◌, ◌<◌, ◌≤◌, Bool, true, false, cond, eqb, ◌⊎◌, List, ◌++◌, length, length-append, get_or, set, drop, replicate, Some, sym, refl, ap, ◌∙◌, inl, inr, arith, get_or-set_other, get_or-set_same}
+use Rattle.std.proofs.lemmas.List.{length-replicate}
 use native.Mathlib.Decide.{ℕ_discrete}
 use Rattle.std.proofs.lemmas.Bool.Decides.{nat_tests}
 use Rattle.game.specs.Game.{Game, WellFormed, sum_below}
@@ -7,9 +8,9 @@ use Rattle.game.specs.Fill.{IsLeast}
 use Rattle.game.specs.Forced.{ForcesInto, Forces, IsForced}
 use Rattle.game.proofs.Forced.{into_map, forces_longer, forced_settles}
 use Rattle.game.proofs.Sums.{sum_const, sum_lt}
-use Rattle.solver.specs.Entries.{never, as_entry, entries, Filled}
+use Rattle.solver.specs.Entries.{never, as_entry, entries}
 use Rattle.solver.specs.Forcing.{MarkedBelow, RoundDone, ForcedMarks}
-use Rattle.solver.proofs.Entries.{entry_small, entry_back}
+use Rattle.solver.proofs.Entries.{entry_small, entry_back, past_front, filled_front}
 
 -- 1 where the number is never
 abbrev one_if : ℕ → ℕ
@@ -32,8 +33,8 @@ pub record AfterRounds (g : Game) (t : ℕ) (old marks : List ℕ) (i : ℕ) : T
 
 module _ (g : Game) (w : WellFormed g) (t : ℕ) (inside : t < g.places) (old : List ℕ) where
   -- never everywhere but at the target
-  pub started : (orig filled : List ℕ) → Filled g.places never orig filled → g.places ≤ length filled → old ≡ set filled t 0 → AfterRounds g t old old 0
-  started orig filled f room is = record {
+  pub started : (rest : List ℕ) → old ≡ set (replicate g.places never ++ rest) t 0 → AfterRounds g t old old 0
+  started rest is = record {
     exact = λ k l. elim (ℕ_discrete k t) [ yes e ↦ rw (at_target k e) (inl (omega arith, (e, λ j lt r. absurd (omega arith)))) | no ne ↦ inr (other k l ne, ne) ];
     rest = λ k l. refl;
     reached = (t, inside, at_target t refl);
@@ -41,13 +42,15 @@ module _ (g : Game) (w : WellFormed g) (t : ℕ) (inside : t < g.places) (old : 
   }
     where
       at_target : (k : ℕ) → k ≡ t → get_or old k 0 ≡ 0
-      at_target k e = rw (e, is) (get_or-set_same filled t 0 0 (omega arith))
+      at_target k e = rw (e, is) (get_or-set_same (replicate g.places never ++ rest) t 0 0 (omega (arith, length-append (replicate g.places never) rest, length-replicate g.places never)))
 
       other : (k : ℕ) → k < g.places → ¬ (k ≡ t) → get_or old k 0 ≡ never
-      other k l ne = rw (is, get_or-set_other filled t k 0 0 ne) (f.front k l)
+      other k l ne = rw (is, get_or-set_other (replicate g.places never ++ rest) t k 0 0 ne) (filled_front g.places k never rest l)
 
-  pub started_rest : (orig filled : List ℕ) → Filled g.places never orig filled → old ≡ set filled t 0 → (k : ℕ) → g.places ≤ k → get_or old k 0 ≡ get_or orig k 0
-  started_rest orig filled f is k l = rw (is, get_or-set_other filled t k 0 0 (omega arith)) (f.rest k l)
+  pub started_rest : (orig : List ℕ) → old ≡ set (replicate g.places never ++ drop g.places orig) t 0 → (k : ℕ) → g.places ≤ k → get_or old k 0 ≡ get_or orig k 0
+  started_rest orig is k l =
+      rw (is, get_or-set_other (replicate g.places never ++ drop g.places orig) t k 0 0 (omega arith))
+      (past_front g.places k (replicate g.places never) orig (length-replicate g.places never) l)
 
   module _ (marks new : List ℕ) (i : ℕ) (s : AfterRounds g t old marks i) where
     small : i < never

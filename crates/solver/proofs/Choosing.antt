@@ -1,16 +1,22 @@
 -- Moves by their numbers, and who chooses among them.
-use Rattle.std.proofs.Common.{◌≡◌, ℕ, Bool, true, false, Some, sym, ◌∙◌, subst}
+use Rattle.std.proofs.Common.{◌≡◌, ℕ, ◌+◌, ◌<◌, ◌≤◌, Bool, true, false, Some, None, Option, length, sym, refl, ap, ◌∙◌, subst, arith}
+use Rattle.std.specs.Bool.{MatchBool}
+use Rattle.std.specs.Iterator.Runs.{Run}
+use Rattle.std.specs.Option.{option_map}
+use Rattle.std.proofs.iter.Yields.{nat_range_steps}
+use Rattle.std.proofs.iter.runs.Sources.{range_runs}
 use Rattle.std.specs.List.{slice_get}
+use Rattle.game.specs.declared.Edge.{Edge}
 use Rattle.game.specs.declared.Owner.{Owner}
 use Rattle.game.specs.declared.Owner.TheVariants.{Ours, Theirs}
-use Rattle.game.specs.Game.{Place, Game}
+use Rattle.game.specs.Game.{Place, Game, WellFormed}
 use Rattle.game.specs.Fill.{Choice}
 use Rattle.game.specs.Forced.{foe, ForcesInto}
-use Rattle.game.proofs.Base.{some_inj}
-use Rattle.hopper.specs.Boards.{owner_at}
-use Rattle.hopper.proofs.Boards.{step_place, step_at_lem, owned}
+use Rattle.game.proofs.Base.{none_some, some_inj}
+use Rattle.hopper.specs.Boards.{owner_at, step_at, count_at}
+use Rattle.hopper.proofs.Boards.{step_place, step_at_lem, step_below, step_there, owned}
 use Rattle.solver.specs.Entries.{Tells}
-use Rattle.solver.specs.Forcing.{SomeLeads, EachLeads}
+use Rattle.solver.specs.Forcing.{LeadsTo, SomeLeads, EachLeads}
 
 -- where the place is ours every move has to lead there, where it is theirs some move
 Led : Owner → Game → (ℕ → Type 0) → ℕ → Type 0
@@ -42,10 +48,50 @@ tells_led o g P p h false not = λ f.
     (subst (λ (x : Owner). Choice (foe x) w.0.moves (λ e. P e.target)) w.2
     (subst (λ (r : Place). Choice (foe r.owner) r.moves (λ e. P e.target)) (some_inj (sym f.1 ∙ w.1)) f.2)))
 
-pub each_forces : (g : Game) (P : ℕ → Type 0) (p : ℕ) → owner_at (g.at p) ≡ Some Ours → (b : Bool) → Tells b (EachLeads g P p) → Tells b (ForcesInto g P p)
-unfolding Led
-each_forces g P p h b t = tells_led Ours g P p h b t
+-- what is not missing is there
+pub some_there : {A : Type 0} (o : Option A) → ¬ (o ≡ None) → (x : A) × (o ≡ Some x)
+some_there None not = absurd (not refl)
+some_there (Some x) not = (x, refl)
 
-pub some_forces : (g : Game) (P : ℕ → Type 0) (p : ℕ) → owner_at (g.at p) ≡ Some Theirs → (b : Bool) → Tells b (SomeLeads g P p) → Tells b (ForcesInto g P p)
-unfolding Led
-some_forces g P p h b t = tells_led Theirs g P p h b t
+-- a place that is there has a move
+pub some_move : (g : Game) → WellFormed g → (p : ℕ) → p < g.places → 1 ≤ count_at (g.at p)
+some_move g wf p lt =
+    let w = wf.here p lt in
+    let some = w.2.some_move in
+    let same : count_at (g.at p) ≡ length w.0.moves = ap count_at w.1 in
+    omega arith
+
+-- by what the test answers
+pub by_test : {P Q : Type 0} (b : Bool) → (b ≡ true → P) → (b ≡ false → Q) → MatchBool b P Q
+by_test true at_true at_false = at_true refl
+by_test false at_true at_false = at_false refl
+
+-- a whole run over 0 .. n comes to each number at its place
+pub comes_to : (p : Run nat_range_steps) → p.from.start ≡ 0 → p.whole ≡ true → (m : ℕ) → m < p.from.end → p.at m ≡ Some m
+comes_to p zero whole m lt =
+    let up = range_runs p p.seen in
+    go (p.at m) (up.3 m (omega (arith, up.1 whole)))
+  where
+    go : (o : Option ℕ) → option_map (λ x. x) o ≡ Some (p.from.start + m) → o ≡ Some m
+    go None is = absurd (none_some is)
+    go (Some x) is = is ∙ ap Some (omega arith)
+
+module _ (g : Game) (P : ℕ → Type 0) (p : ℕ) where
+  -- a place of ours is forced there where each move leads there, and a place of theirs where some move does
+  pub each_forces : owner_at (g.at p) ≡ Some Ours → (b : Bool)
+      → MatchBool b ((m : ℕ) → m < count_at (g.at p) → LeadsTo g P p m) ((m : ℕ) × (m < count_at (g.at p)) × ¬ LeadsTo g P p m)
+      → Tells b (ForcesInto g P p)
+  unfolding Led
+  each_forces h true all = tells_led Ours g P p h true (λ m e is.
+      let w = all m (step_below (g.at p) m e is) in
+      subst (λ (x : Edge). P x.target) (some_inj (sym w.1 ∙ is)) w.2)
+  each_forces h false one = tells_led Ours g P p h false (λ f.
+      let w = some_there (step_at (g.at p) one.0) (step_there (g.at p) one.0 one.1) in
+      one.2 (w.0, w.1, f one.0 w.0 w.1))
+
+  pub some_forces : owner_at (g.at p) ≡ Some Theirs → (b : Bool)
+      → MatchBool b ((m : ℕ) × LeadsTo g P p m) ((m : ℕ) → m < count_at (g.at p) → ¬ LeadsTo g P p m)
+      → Tells b (ForcesInto g P p)
+  unfolding Led
+  some_forces h true one = tells_led Theirs g P p h true (one.0, one.1.0, one.1.1, one.1.2)
+  some_forces h false none = tells_led Theirs g P p h false (λ w. none w.0 (step_below (g.at p) w.0 w.1 w.2) (w.1, w.2, w.3))

@@ -1,5 +1,7 @@
 -- How the numbers of a buffer are read.
-use Rattle.std.proofs.Common.{◌≡◌, ℕ, ◌<◌, Bool, true, false, cond, eqb, Some, None, sym, refl, ap, ◌∙◌, arith}
+use Rattle.std.proofs.Common.{◌≡◌, ℕ, ◌<◌, ◌≤◌, Bool, true, false, cond, eqb, List, ◌++◌, length, get_or, take, drop, replicate, length-take-le, ◌-◌, Some, None, sym, refl, ap, ◌∙◌, arith}
+use Rattle.std.proofs.lemmas.Grind.{same_number_lists}
+use Rattle.std.proofs.lemmas.List.{get_or_append_left, get_or-append_right, get_or-drop, get_or-replicate, get_or-take, length-replicate}
 use Rattle.std.proofs.lemmas.Bool.{ne_eqb, eqb-true, eqb-false}
 use Rattle.game.proofs.Base.{none_some, some_inj}
 use Rattle.solver.specs.Entries.{never, as_entry}
@@ -25,3 +27,24 @@ entry_inj a b h = go (eqb a never) (eqb b never) refl refl h
     go true false p q h = absurd (none_some h)
     go false true p q h = absurd (none_some (sym h))
     go false false p q h = some_inj h
+
+-- ---- a buffer whose first n entries are written anew
+pub past_front : (n k : ℕ) (front old : List ℕ) → length front ≡ n → n ≤ k → get_or (front ++ drop n old) k 0 ≡ get_or old k 0
+past_front n k front old long le = get_or-append_right front (drop n old) n k 0 long le ∙ (get_or-drop n old (k - n) 0 ∙ ap (λ (i : ℕ). get_or old i 0) (omega arith))
+
+pub filled_front : (n k value : ℕ) (rest : List ℕ) → k < n → get_or (replicate n value ++ rest) k 0 ≡ value
+filled_front n k value rest lt = get_or_append_left (replicate n value) rest 0 k (omega (arith, length-replicate {A = ℕ})) ∙ get_or-replicate n k value 0 lt
+
+pub copied_front : (n k : ℕ) (from rest : List ℕ) → k < n → n ≤ length from → get_or (take n from ++ rest) k 0 ≡ get_or from k 0
+copied_front n k from rest lt le = get_or_append_left (take n from) rest 0 k (omega (arith, length-take-le n from le)) ∙ get_or-take n from k 0 lt
+
+-- two buffers begin alike where their first n entries are the same
+pub same_front : (n : ℕ) (a b : List ℕ) → n ≤ length a → n ≤ length b → ((k : ℕ) → k < n → get_or a k 0 ≡ get_or b k 0) → take n a ≡ take n b
+same_front n a b room spare same =
+    let one = length-take-le n a room in
+    let two = length-take-le n b spare in
+    same_number_lists (take n a) (take n b) (omega arith)
+    (λ k lt. let less : k < n = omega arith in get_or-take n a k 0 less ∙ (same k less ∙ sym (get_or-take n b k 0 less)))
+
+pub front_same : (n : ℕ) (a b : List ℕ) → take n a ≡ take n b → (k : ℕ) → k < n → get_or a k 0 ≡ get_or b k 0
+front_same n a b same k lt = sym (get_or-take n a k 0 lt) ∙ (ap (λ (xs : List ℕ). get_or xs k 0) same ∙ get_or-take n b k 0 lt)

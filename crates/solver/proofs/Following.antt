@@ -1,8 +1,8 @@
 -- The planned moves, and the runs that make them.
-use Rattle.std.proofs.Common.{◌≡◌, ℕ, ◌+◌, ◌<◌, ◌≤◌, true, cond, ltb, leb, List, [], ◌∷◌, length, get_or, Some, Ok, Err, Result, sym, refl, ap, ◌∙◌, subst, inl, inr, arith}
-use native.Mathlib.Decide.{dec_lt, dec_le}
-use Rattle.std.proofs.lemmas.Bool.{cond-false, lt-leb, le-ltb}
+use Rattle.std.proofs.Common.{◌≡◌, ℕ, ◌<◌, ◌≤◌, true, false, ltb, leb, List, [], ◌∷◌, length, get_or, Some, None, Option, Ok, Err, sym, refl, ap, ◌∙◌, subst, inl, inr, arith}
+use native.Mathlib.Decide.{dec_le}
 use Rattle.std.specs.List.{slice_get}
+use Rattle.std.specs.Option.{MatchOption, ok_or}
 use Rattle.game.specs.declared.Edge.{Edge}
 use Rattle.game.specs.declared.Owner.{Owner}
 use Rattle.game.specs.declared.Owner.TheVariants.{Ours, Theirs}
@@ -14,18 +14,17 @@ use Rattle.game.specs.Rows.{Reaches}
 use Rattle.game.proofs.Base.{some_inj, stable, Through}
 use Rattle.game.proofs.Decided.{good_leads_on}
 use Rattle.game.proofs.Force.{sound_at}
-use Rattle.hopper.specs.declared.Check.{Check}
+use Rattle.hopper.specs.Faults.{Check, check, fault}
 use Rattle.hopper.specs.declared.Fault.{Fault}
 use Rattle.hopper.specs.declared.Layer.TheVariants.{Rest}
 use Rattle.hopper.specs.declared.Refusal.TheVariants.{NoSuchPlace, RowTooShort, PlanAtTheirs, NoMoveServes}
 use Rattle.hopper.specs.Boards.{owner_at, step_at, count_at}
-use Rattle.hopper.specs.Faults.{fault, check}
 use Rattle.hopper.specs.Refusing.{verdict}
-use Rattle.hopper.proofs.Refusing.{first_refuses, second_decides}
+use Rattle.hopper.proofs.Refusing.{second_decides}
 use Rattle.hopper.proofs.Boards.{step_at_lem, step_below, step_inside, owner_some, owned}
 use Rattle.solver.specs.Entries.{never, entries}
-use Rattle.solver.specs.Least.{Parts, GoodFrom}
-use Rattle.solver.specs.RowSteps.{Enough, Serves}
+use Rattle.solver.specs.Least.{GoodFrom}
+use Rattle.solver.specs.RowSteps.{Enough, Serves, NeededFor, NeedsMore, NeedsAtMost, FirstServing}
 use Rattle.solver.specs.Planning.{is_theirs, NeedsNoMore, Planned, PlanAnswers, AnswersWhereGood, FollowsPlan, PlannedRunsArePoured}
 use Rattle.solver.proofs.Entries.{entry_small, entry_back}
 use Rattle.solver.proofs.Parting.{parts_need}
@@ -43,38 +42,36 @@ module _ (g : Game) (wf : WellFormed g) (top : ℕ) (t : Table) (keeps : Keeps t
       passed k lt s.move s.is_move s.needed le s.need.0
       (subst (λ (w : ℕ). Reaches t w s.move.amount s.needed) (sym wants.0) (s.need.1 s.needed (omega arith) s.need.0))
 
-  module _ (m : ℕ) (e : Edge) (is : step_at (g.at p) m ≡ Some e) (level : ℕ) (asked : Parts top (Serves t row e) level) where
-    -- the move asks for more than the entry
-    pub passed_further : get_or row p 0 < level → Passed g top t row p m → (k : ℕ) → k < m + 1 → (x : Edge) → step_at (g.at p) k ≡ Some x
-        → (c : ℕ) → c ≤ get_or row p 0 → c ≤ top → Serves t row x c → ⊥
-    passed_further lt passed k less x h c le l a = elim (dec_lt k m) [
-      | yes y ↦ passed k y x h c le l a
-      | no n ↦ (let same : k ≡ m = omega arith in
-          let here : step_at (g.at p) m ≡ Some x = subst (λ (j : ℕ). step_at (g.at p) j ≡ Some x) same h in
-          asked.below c (omega arith) l (subst (λ (y : Edge). Serves t row y c) (some_inj (sym here ∙ is)) a))
-    ]
+  -- what needs more than the entry is passed
+  pub passed_by : (n : ℕ) → ((k : ℕ) → k < n → NeedsMore g top t row p (get_or row p 0) k) → Passed g top t row p n
+  passed_by n more k lt e is c le h serves =
+      let w = more k lt in
+      let need = w.is_needed in
+      let least = w.more in
+      need.parts.below c (omega arith) h (subst (λ (x : Edge). Serves t row x c) (some_inj (sym is ∙ need.is_move)) serves)
 
-    -- the move serves
-    module _ (le : level ≤ get_or row p 0) (number : get_or row p 0 < never) where
-      low : level ≤ top
-      low = elim asked.level [ inl h ↦ h | inr h ↦ absurd (omega arith) ]
+  -- the move serves
+  module _ (m level : ℕ) (asked : NeededFor g top t row p m level) (le : level ≤ get_or row p 0) (number : get_or row p 0 < never) where
+    low : level ≤ top
+    low = elim asked.parts.level [ inl h ↦ h | inr h ↦ absurd (omega arith) ]
 
-      pub needs_no_more : NeedsNoMore g top t (entries row) p m
-      needs_no_more =
-          let r = asked.above level (omega arith) low in
-          let d≤ = keeps.within level e.amount r.0 r.1 in
-          let small : get_or row e.target 0 < never = (let z = r.2 in let y = keeps.top_fits in omega arith) in
-          record {
-            move = e;
-            has = get_or row p 0;
-            wanted = get_or row e.target 0;
-            needed = level;
-            is_move = is;
-            entry = entry_small (get_or row p 0) number;
-            target = entry_small (get_or row e.target 0) small;
-            need = parts_need top keeps.top_fits t keeps (get_or row e.target 0) e.amount level low asked;
-            enough = le;
-          }
+    pub needs_no_more : NeedsNoMore g top t (entries row) p m
+    needs_no_more =
+        let e = asked.move in
+        let r = asked.parts.above level (omega arith) low in
+        let d≤ = keeps.within level e.amount r.0 r.1 in
+        let small : get_or row e.target 0 < never = (let z = r.2 in let y = keeps.top_fits in omega arith) in
+        record {
+          move = e;
+          has = get_or row p 0;
+          wanted = get_or row e.target 0;
+          needed = level;
+          is_move = asked.is_move;
+          entry = entry_small (get_or row p 0) number;
+          target = entry_small (get_or row e.target 0) small;
+          need = parts_need top keeps.top_fits t keeps (get_or row e.target 0) e.amount level low asked.parts;
+          enough = le;
+        }
 
   -- of good fills some move serves
   pub always_served : (n : ℕ) → owner_at (g.at p) ≡ Some Ours → count_at (g.at p) ≤ n → Passed g top t row p n → GoodFrom g top t row → get_or row p 0 < never → ⊥
@@ -89,7 +86,7 @@ module _ (g : Game) (wf : WellFormed g) (top : ℕ) (t : Table) (keeps : Keeps t
       let is = step_at_lem g p v.0 w.0 v.1 w.1 v.2 in
       let inside' = step_inside g wf p v.0 v.1 is in
       let d≤ = keeps.within x v.1.amount v.3.0 v.3.1 in
-      let enough : get_or row v.1.target 0 ≤ v.3.0 = stable (dec_le (get_or row v.1.target 0) v.3.0) (λ not. (good v.1.target inside').below v.3.0 (omega arith) d≤ v.3.2) in
+      let enough : get_or row v.1.target 0 ≤ v.3.0 = stable {A = get_or row v.1.target 0 ≤ v.3.0} (dec_le (get_or row v.1.target 0) v.3.0) (λ not. (good v.1.target inside').below v.3.0 (omega arith) d≤ v.3.2) in
       let below = step_below (g.at p) v.0 v.1 is in
       passed v.0 (omega arith) v.1 is x (omega arith) fill (v.3.0, v.3.1, enough)
 
@@ -100,33 +97,35 @@ asked g room p =
     ∷ check (is_theirs (owner_at (g.at p))) PlanAtTheirs Rest p ∷ []
 
 module _ (g : Game) (wf : WellFormed g) (top : ℕ) (t : Table) (row : List ℕ) (p : ℕ) where
-  passes : g.places ≤ length row → owner_at (g.at p) ≡ Some Ours → verdict (asked g (length row) p) ≡ Ok tt
-  passes room own =
-      let inside = owner_some g wf p Ours own in
-      cond-false (leb g.places p) (Err (fault NoSuchPlace Rest p)) rest (lt-leb g.places p inside)
-      ∙ (cond-false (ltb (length row) g.places) (Err (fault RowTooShort Rest g.places)) last (le-ltb (length row) g.places room)
-      ∙ cond-false (is_theirs (owner_at (g.at p))) (Err (fault PlanAtTheirs Rest p)) (Ok tt) (ap is_theirs own))
-    where
-      last : Result (Unit {0}) Fault
-      last = cond (is_theirs (owner_at (g.at p))) (Err (fault PlanAtTheirs Rest p)) (Ok tt)
-
-      rest : Result (Unit {0}) Fault
-      rest = cond (ltb (length row) g.places) (Err (fault RowTooShort Rest g.places)) last
-
-  clash : {e : Fault} → verdict (asked g (length row) p) ≡ Err e → verdict (asked g (length row) p) ≡ Ok tt → ⊥
-  clash h k = let z : ◌≡◌ {A = ℕ} 0 1 = cc in omega arith
-
-  pub refused_answer : (r : Result ℕ Fault) (e : Fault) → r ≡ Err e → verdict (asked g (length row) p) ≡ Err e → PlanAnswers g top t row p r
-  refused_answer r e is h =
-      subst (PlanAnswers g top t row p) (sym is)
-      (sym (first_refuses (asked g (length row) p) (check true NoMoveServes Rest p ∷ []) tt e (sym h)), λ ok. absurd (clash h ok))
-
-  pub refused_served : (r : Result ℕ Fault) (e : Fault) → verdict (asked g (length row) p) ≡ Err e → AnswersWhereGood g top t row p r
-  refused_served r e h good room own number = absurd (clash h (passes room own))
-
   -- no move serves, after all the other checks
   pub unserved_answer : verdict (asked g (length row) p) ≡ Ok tt → ((m : ℕ) → ¬ NeedsNoMore g top t (entries row) p m) → PlanAnswers g top t row p (Err (fault NoMoveServes Rest p))
   unserved_answer h none = (sym (second_decides (asked g (length row) p) (check true NoMoveServes Rest p ∷ []) tt tt (sym h)), λ ok. none)
+
+-- ---- what a search through the moves tells
+pub first_found : (g : Game) (top : ℕ) (t : Table) (row : List ℕ) (p level a n : ℕ) (o : Option ℕ) → a ≡ 0 → n ≡ count_at (g.at p)
+    → MatchOption o ((k : ℕ) → a ≤ k → k < n → NeedsMore g top t row p level k)
+    (λ m. (a ≤ m) × (m < n) × NeedsAtMost g top t row p level m × ((k : ℕ) → a ≤ k → k < m → NeedsMore g top t row p level k))
+    → FirstServing g top t row p level o
+first_found g top t row p level a n None start all none = λ m lt. none m (omega arith) (omega arith)
+first_found g top t row p level a n (Some m) start all one = (one.2, λ k lt. one.3 k (omega arith) lt)
+
+module _ (g : Game) (wf : WellFormed g) (top : ℕ) (t : Table) (keeps : Keeps top t) (row : List ℕ) (p : ℕ) where
+  pub found_answer : (o : Option ℕ) → FirstServing g top t row p (get_or row p 0) o → verdict (asked g (length row) p) ≡ Ok tt → get_or row p 0 < never
+      → PlanAnswers g top t row p (ok_or o (fault NoMoveServes Rest p))
+  found_answer (Some m) s h number = (
+    sym (second_decides (asked g (length row) p) (check false NoMoveServes Rest p ∷ []) tt tt (sym h)),
+    record {
+      serves = needs_no_more g wf top t keeps row p m s.0.needed s.0.is_needed s.0.enough number;
+      first = λ k lt. passed_not g wf top t keeps row p m k (passed_by g wf top t keeps row p m s.1) lt;
+    },
+  )
+  found_answer None s h number = unserved_answer g wf top t row p h (λ m w.
+      passed_not g wf top t keeps row p (count_at (g.at p)) m (passed_by g wf top t keeps row p (count_at (g.at p)) s) (step_below (g.at p) m w.move w.is_move) w)
+
+  pub found_served : (o : Option ℕ) (f : Fault) → FirstServing g top t row p (get_or row p 0) o → AnswersWhereGood g top t row p (ok_or o f)
+  found_served (Some m) f s good room own number = refl
+  found_served None f s good room own number =
+      absurd (always_served g wf top t keeps row p (count_at (g.at p)) own (omega arith) (passed_by g wf top t keeps row p (count_at (g.at p)) s) good number)
 
 -- ---- a run that follows the plan
 module _ (g : Game) (wf : WellFormed g) (top : ℕ) (t : Table) (keeps : Keeps top t) (row : List ℕ) (good : GoodFrom g top t row) where

@@ -1,8 +1,8 @@
 -- The forced marks of the unfolded board are the marks of the fills, and those tell their fates.
-use Rattle.std.proofs.Common.{◌≡◌, ℕ, zero, suc, ◌+◌, ◌<◌, ◌≤◌, cond, ltb, leb, ◌↔◌, List, length, get_or, pos, Some, None, Ok, Err, Option, Result, sym, refl, ap, ◌∙◌, subst, inl, inr, arith}
+use Rattle.std.proofs.Common.{◌≡◌, ℕ, zero, suc, ◌+◌, ◌<◌, ◌≤◌, ltb, leb, ◌↔◌, List, [], ◌∷◌, length, get_or, pos, Some, None, Ok, Err, Option, Result, sym, refl, ap, ◌∙◌, subst, inl, inr, arith}
 use native.Mathlib.Decide.{dec_le, ℕ_discrete}
 use Rattle.std.proofs.lemmas.Int.{ints}
-use Rattle.std.proofs.lemmas.Bool.{cond-false, lt-leb, le-ltb}
+use Rattle.std.proofs.lemmas.Bool.{lt-leb, le-ltb}
 use Rattle.game.specs.Game.{Game, WellFormed}
 use Rattle.game.specs.Limits.{most_fills}
 use Rattle.game.specs.Vessel.{Table, Keeps, lip, closed}
@@ -20,8 +20,9 @@ use Rattle.hopper.specs.declared.Fault.{Fault}
 use Rattle.hopper.specs.declared.Layer.TheVariants.{Rest}
 use Rattle.hopper.specs.declared.Refusal.TheVariants.{NoSuchPlace, TooManyFills, MarksTooShort}
 use Rattle.hopper.specs.Accepting.{Accepted}
-use Rattle.hopper.specs.Faults.{fault}
+use Rattle.hopper.specs.Faults.{Check, check, fault}
 use Rattle.hopper.specs.Refusing.{verdict}
+use Rattle.hopper.proofs.Refusing.{skipped}
 use Rattle.solver.specs.Entries.{never, as_entry, entries}
 use Rattle.solver.specs.Forcing.{forced_checks, ForcedMarks, ForcedAnswers}
 use Rattle.solver.specs.Marking.{mark_checks, FillMarks, MarkAnswers, TellsFates, NeverIsGood, NeverOrWithin, BadIsForcedWithin, OneAboveTop, EachFillHasFate, NeverWinsLowerWeakUpperBound, NeverWinsIntervalBound}
@@ -75,12 +76,12 @@ module _ (g : Game) (wf : WellFormed g) (top : ℕ) (t : Table) (keeps : Keeps t
     -- the checks of `forced` are then those of `mark`
     same_verdict : verdict (forced_checks (unfolded g top t) (spill g top) (length old)) ≡ verdict (mark_checks g top (length old))
     same_verdict =
-        ap (λ (n : ℕ). cond (leb n (spill g top)) (Err (fault NoSuchPlace Rest (spill g top))) (cond (ltb (length old) n) (Err (fault MarksTooShort Rest n)) (Ok tt))) places
-        ∙ (cond-false (leb (spill g top + 1) (spill g top)) (Err (fault NoSuchPlace Rest (spill g top))) last (lt-leb (spill g top + 1) (spill g top) (omega arith))
-        ∙ sym (cond-false (ltb most_fills (spill g top)) (Err (fault TooManyFills Rest top)) last (le-ltb most_fills (spill g top) small)))
+        ap (λ (n : ℕ). verdict (check (leb n (spill g top)) NoSuchPlace Rest (spill g top) ∷ check (ltb (length old) n) MarksTooShort Rest n ∷ [])) places
+        ∙ (skipped (leb (spill g top + 1) (spill g top)) (fault NoSuchPlace Rest (spill g top)) last tt (lt-leb (spill g top + 1) (spill g top) (omega arith))
+        ∙ sym (skipped (ltb most_fills (spill g top)) (fault TooManyFills Rest top) last tt (le-ltb most_fills (spill g top) small)))
       where
-        last : Result (Unit {0}) Fault
-        last = cond (ltb (length old) (spill g top + 1)) (Err (fault MarksTooShort Rest (spill g top + 1))) (Ok tt)
+        last : List Check
+        last = check (ltb (length old) (spill g top + 1)) MarksTooShort Rest (spill g top + 1) ∷ []
 
     fill_marks : (rounds : ℕ) → ForcedMarks (unfolded g top t) (spill g top) old new rounds → FillMarks g top t old new rounds
     fill_marks rounds s =

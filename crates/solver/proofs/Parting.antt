@@ -1,5 +1,5 @@
 -- Numbers that part the levels.
-use Rattle.std.proofs.Common.{◌≡◌, ℕ, ◌≤◌, ◌⊎◌, ℤ, Some, None, sym, refl, ap, ◌∙◌, subst, inl, inr, arith}
+use Rattle.std.proofs.Common.{◌≡◌, ℕ, ◌≤◌, ℤ, Some, None, Option, unwrap_or, sym, refl, ap, subst, inl, inr, arith}
 use Rattle.game.specs.Limits.{most_top}
 use Rattle.game.specs.Vessel.{Table, Keeps}
 use Rattle.game.specs.Fill.{IsLeast}
@@ -18,32 +18,6 @@ module _ (top : ℕ) (fits : top ≤ most_top) where
   pub parts_map : (P Q : ℕ → Type 0) → ((c : ℕ) → c ≤ top → P c → Q c) → ((c : ℕ) → c ≤ top → Q c → P c) → (n : ℕ) → Parts top P n → Parts top Q n
   parts_map P Q f b n s = record { level = s.level; above = λ c a h. f c h (s.above c a h); below = λ c a h q. s.below c a h (b c h q) }
 
-  -- either: the lesser
-  pub parts_or : (P Q : ℕ → Type 0) (x y z : ℕ) → ((z ≡ x) × (x ≤ y)) ⊎ ((z ≡ y) × (y ≤ x)) → Parts top P x → Parts top Q y → Parts top (λ c. P c ⊎ Q c) z
-  parts_or P Q x y z (inl w) a b = record {
-    level = elim a.level [ inl h ↦ inl (omega (arith, w.0)) | inr h ↦ inr (w.0 ∙ h) ];
-    above = λ c h l. inl (a.above c (omega (arith, w.0)) l);
-    below = λ c h l p. elim p [ inl p' ↦ a.below c (omega (arith, w.0)) l p' | inr q ↦ b.below c (omega (arith, w.0, w.1)) l q ];
-  }
-  parts_or P Q x y z (inr w) a b = record {
-    level = elim b.level [ inl h ↦ inl (omega (arith, w.0)) | inr h ↦ inr (w.0 ∙ h) ];
-    above = λ c h l. inr (b.above c (omega (arith, w.0)) l);
-    below = λ c h l p. elim p [ inl p' ↦ a.below c (omega (arith, w.0, w.1)) l p' | inr q ↦ b.below c (omega (arith, w.0)) l q ];
-  }
-
-  -- both: the greater
-  pub parts_and : (P Q : ℕ → Type 0) (x y z : ℕ) → ((z ≡ x) × (y ≤ x)) ⊎ ((z ≡ y) × (x ≤ y)) → Parts top P x → Parts top Q y → Parts top (λ c. P c × Q c) z
-  parts_and P Q x y z (inl w) a b = record {
-    level = elim a.level [ inl h ↦ inl (omega (arith, w.0)) | inr h ↦ inr (w.0 ∙ h) ];
-    above = λ c h l. (a.above c (omega (arith, w.0)) l, b.above c (omega (arith, w.0, w.1)) l);
-    below = λ c h l p. a.below c (omega (arith, w.0)) l p.0;
-  }
-  parts_and P Q x y z (inr w) a b = record {
-    level = elim b.level [ inl h ↦ inl (omega (arith, w.0)) | inr h ↦ inr (w.0 ∙ h) ];
-    above = λ c h l. (a.above c (omega (arith, w.0, w.1)) l, b.above c (omega (arith, w.0)) l);
-    below = λ c h l p. b.below c (omega (arith, w.0)) l p.1;
-  }
-
   -- what parts the levels tells the least of them
   pub parts_least : (P : ℕ → Type 0) (n : ℕ) → Parts top P n → IsLeast (λ c. (c ≤ top) × P c) (as_entry n)
   parts_least P n s = elim s.level [ inl h ↦ low h | inr e ↦ high e ]
@@ -56,11 +30,10 @@ module _ (top : ℕ) (fits : top ≤ most_top) where
       high e = subst (IsLeast (λ c. (c ≤ top) × P c)) (sym (ap as_entry e)) (λ c p. s.below c (let z = p.0 in omega arith) p.0 p.1)
 
   module _ (t : Table) (keeps : Keeps top t) where
-    pub need_parts : (wanted : ℕ) (a : ℤ) (n : ℕ) → IsNeed top t wanted a (Some n) → Parts top (Reaches t wanted a) n
-    need_parts wanted a n is = record { level = inl is.0; above = is.1; below = λ c lt le r. is.2 c lt r }
-
-    pub no_need_parts : (wanted : ℕ) (a : ℤ) → IsNeed top t wanted a None → Parts top (Reaches t wanted a) never
-    no_need_parts wanted a is = parts_none (Reaches t wanted a) (λ c le r. is c r)
+    -- a need, or never where there is none
+    pub need_parts : (wanted : ℕ) (a : ℤ) (o : Option ℕ) → IsNeed top t wanted a o → Parts top (Reaches t wanted a) (unwrap_or o never)
+    need_parts wanted a None is = parts_none (Reaches t wanted a) (λ c le r. is c r)
+    need_parts wanted a (Some n) is = record { level = inl is.0; above = is.1; below = λ c lt le r. is.2 c lt r }
 
     pub parts_need : (wanted : ℕ) (a : ℤ) (n : ℕ) → n ≤ top → Parts top (Reaches t wanted a) n → IsNeed top t wanted a (Some n)
     parts_need wanted a n le s = (le, s.above, λ c lt r. s.below c lt (omega arith) r)

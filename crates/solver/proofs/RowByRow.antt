@@ -1,5 +1,6 @@
 -- Rows one after another, until one repeats.
-use Rattle.std.proofs.Common.{◌≡◌, ℕ, suc, ◌+◌, ◌*◌, ◌<◌, ◌≤◌, ◌⊎◌, ◌↔◌, List, length, get_or, Some, None, Option, sym, refl, ◌∙◌, subst, inl, inr, arith}
+use Rattle.std.proofs.Common.{◌≡◌, ℕ, suc, ◌+◌, ◌*◌, ◌<◌, ◌≤◌, ◌⊎◌, ◌↔◌, List, ◌++◌, length, length-take-le, get_or, take, drop, replicate, Some, None, Option, sym, refl, ap, ◌∙◌, subst, inl, inr, arith}
+use Rattle.std.proofs.lemmas.List.{length-replicate}
 use native.Mathlib.Decide.{dec_lt, dec_le}
 use Rattle.game.specs.Game.{Game, WellFormed}
 use Rattle.game.specs.Vessel.{Table, Keeps, unlimited}
@@ -12,10 +13,10 @@ use Rattle.game.proofs.Levels.{good_level}
 use Rattle.game.proofs.Lip.{step_through, lip_at_drop_sum_is_no_lip}
 use Rattle.game.proofs.Rows.{some_row_repeats, unique}
 use Rattle.game.proofs.Weights.{lip_is_lower_weak_upper_bound, unlimited_is_lower_bound}
-use Rattle.solver.specs.Entries.{entries, KeptFrom, Filled}
+use Rattle.solver.specs.Entries.{entries, KeptFrom}
 use Rattle.solver.specs.Least.{Parts, FirstRepeatedRow, StillChanging, HoldsLeastGood, GoodFrom, WinsLowerWeakUpperBoundFrom, HoldsLeastWithoutLip, HoldsLeastLowerBound}
-use Rattle.solver.specs.RowSteps.{Enough, NextRow, Copied, SameTo}
-use Rattle.solver.proofs.Entries.{entry_inj}
+use Rattle.solver.specs.RowSteps.{Enough, NextRow}
+use Rattle.solver.proofs.Entries.{entry_inj, past_front, filled_front, copied_front, same_front, front_same}
 use Rattle.solver.proofs.Marks.{lip_below_top}
 use Rattle.solver.proofs.Parting.{parts_all, parts_map, parts_least}
 
@@ -138,57 +139,72 @@ module _ (g : Game) (wf : WellFormed g) (top : ℕ) (t : Table) (keeps : Keeps t
     pub before : (i : ℕ) → i < j → ¬ Repeats g top t i
     pub past_one : (k : ℕ) → g.places ≤ k → get_or row' k 0 ≡ get_or row k 0
     pub past_two : (k : ℕ) → g.places ≤ k → get_or next' k 0 ≡ get_or next k 0
+    pub room_one : g.places ≤ length row'
+    pub room_two : g.places ≤ length next'
 
   module _ (row next : List ℕ) where
-    pub rebased : (row' next' row'' next'' : List ℕ) (j : ℕ) → Filled g.places 0 row row' → NextRow g top t g.places row' next next'
+    pub rebased : (row' next' row'' next'' : List ℕ) (j : ℕ) → row' ≡ replicate g.places 0 ++ drop g.places row → NextRow g top t g.places row' next next'
         → Running row' next' row'' next'' j → Running row next row'' next'' j
     rebased row' next' row'' next'' j e s r = record {
       one = r.one;
       two = r.two;
       before = r.before;
-      past_one = λ k le. r.past_one k le ∙ e.rest k le;
+      past_one = λ k le.
+          r.past_one k le ∙ (ap (λ (xs : List ℕ). get_or xs k 0) e ∙ past_front g.places k (replicate g.places 0) row (length-replicate g.places 0) le);
       past_two = λ k le. r.past_two k le ∙ s.rest k le;
+      room_one = r.room_one;
+      room_two = r.room_two;
     }
 
-    pub started : (row' next' : List ℕ) → Filled g.places 0 row row' → NextRow g top t g.places row' next next' → Running row' next' row' next' 0
+    pub started : (row' next' : List ℕ) → row' ≡ replicate g.places 0 ++ drop g.places row → NextRow g top t g.places row' next next'
+        → g.places ≤ length row' → g.places ≤ length next' → Running row' next' row' next' 0
     unfolding Row_is
-    started row' next' e s = record {
+    started row' next' e s one two = record {
       one = zeros;
       two = next_is 0 row' next next' zeros s;
       before = λ i lt. absurd (omega arith);
       past_one = λ k le. refl;
       past_two = λ k le. refl;
+      room_one = one;
+      room_two = two;
     }
       where
         zeros : (p : ℕ) → p < g.places → Parts top (Holds g t 0 p) (get_or row' p 0)
-        zeros p lt = subst (Parts top (Holds g t 0 p)) (sym (e.front p lt)) (parts_all top keeps.top_fits (Holds g t 0 p) (λ c le. tt))
+        zeros p lt = subst (Parts top (Holds g t 0 p)) (sym (ap (λ (xs : List ℕ). get_or xs p 0) e ∙ filled_front g.places p 0 (drop g.places row) lt)) (parts_all top keeps.top_fits (Holds g t 0 p) (λ c le. tt))
 
-    changes : (row' next' : List ℕ) (j : ℕ) → Running row next row' next' j → ¬ SameTo g.places row' next' → ¬ Repeats g top t j
+    changes : (row' next' : List ℕ) (j : ℕ) → Running row next row' next' j → ¬ (take g.places row' ≡ take g.places next') → ¬ Repeats g top t j
     changes row' next' j r no_same w =
-        no_same (λ p lt.
+        no_same (same_front g.places row' next' r.room_one r.room_two (λ p lt.
         entry_inj (get_or row' p 0) (get_or next' p 0)
         (unique.row g t top j (entries row') w.0 (is_row j row' r.one) w.1 p lt
-        ∙ unique.row g t top (suc j) w.0 (entries next') w.2 (is_row (suc j) next' r.two) p lt))
+        ∙ unique.row g t top (suc j) w.0 (entries next') w.2 (is_row (suc j) next' r.two) p lt)))
 
-    until : (row' next' : List ℕ) (j : ℕ) → Running row next row' next' j → ¬ SameTo g.places row' next' → (i : ℕ) → i ≤ j → ¬ Repeats g top t i
+    until : (row' next' : List ℕ) (j : ℕ) → Running row next row' next' j → ¬ (take g.places row' ≡ take g.places next') → (i : ℕ) → i ≤ j → ¬ Repeats g top t i
     until row' next' j r no_same i le = elim (dec_lt i j) [
       | yes lt ↦ r.before i lt
       | no n ↦ (let e : j ≡ i = omega arith in subst (λ (k : ℕ). ¬ Repeats g top t k) e (changes row' next' j r no_same))
     ]
 
-    pub gone_on : (row' next' row'' next'' : List ℕ) (j : ℕ) → Running row next row' next' j → ¬ SameTo g.places row' next'
-        → Copied g.places next' row' row'' → NextRow g top t g.places row'' next' next'' → Running row next row'' next'' (suc j)
+    pub gone_on : (row' next' row'' next'' : List ℕ) (j : ℕ) → Running row next row' next' j → ¬ (take g.places row' ≡ take g.places next')
+        → row'' ≡ take g.places next' ++ drop g.places row' → NextRow g top t g.places row'' next' next''
+        → g.places ≤ length row'' → g.places ≤ length next'' → Running row next row'' next'' (suc j)
     unfolding Row_is
-    gone_on row' next' row'' next'' j r no_same c s = record {
+    gone_on row' next' row'' next'' j r no_same e s one two = record {
       one = same;
       two = next_is (suc j) row'' next' next'' same s;
       before = λ i lt. until row' next' j r no_same i (omega arith);
-      past_one = λ k le. c.rest k le ∙ r.past_one k le;
+      past_one = λ k le.
+          ap (λ (xs : List ℕ). get_or xs k 0) e
+          ∙ (past_front g.places k (take g.places next') row' (length-take-le g.places next' r.room_two) le ∙ r.past_one k le);
       past_two = λ k le. s.rest k le ∙ r.past_two k le;
+      room_one = one;
+      room_two = two;
     }
       where
         same : (p : ℕ) → p < g.places → Parts top (Holds g t (suc j) p) (get_or row'' p 0)
-        same p lt = subst (Parts top (Holds g t (suc j) p)) (sym (c.front p lt)) (r.two p lt)
+        same p lt =
+            subst (Parts top (Holds g t (suc j) p))
+            (sym (ap (λ (xs : List ℕ). get_or xs p 0) e ∙ copied_front g.places p next' (drop g.places row') lt r.room_two)) (r.two p lt)
 
     module _ (row' next' : List ℕ) (j : ℕ) (r : Running row next row' next' j) (sizes : (length row' ≡ length row) × (length next' ≡ length next)) where
       row_kept : KeptFrom g.places row row'
@@ -197,14 +213,14 @@ module _ (g : Game) (wf : WellFormed g) (top : ℕ) (t : Table) (keeps : Keeps t
       next_kept : KeptFrom g.places next next'
       next_kept = record { same_length = sizes.1; same_rest = r.past_two }
 
-      module _ (same : SameTo g.places row' next') where
+      module _ (same : take g.places row' ≡ take g.places next') where
         again : Row_is (suc j) row'
         unfolding Row_is
-        again p lt = subst (Parts top (Holds g t (suc j) p)) (sym (same p lt)) (r.two p lt)
+        again p lt = subst (Parts top (Holds g t (suc j) p)) (sym (front_same g.places row' next' same p lt)) (r.two p lt)
 
         too : Row_is j next'
         unfolding Row_is
-        too p lt = subst (Parts top (Holds g t j p)) (same p lt) (r.one p lt)
+        too p lt = subst (Parts top (Holds g t j p)) (front_same g.places row' next' same p lt) (r.one p lt)
 
         pub first_repeated : FirstRepeatedRow g top t row row' next next' j
         first_repeated = record {
@@ -221,7 +237,7 @@ module _ (g : Game) (wf : WellFormed g) (top : ℕ) (t : Table) (keeps : Keeps t
         pub repeated_least : HoldsLeastGood g t row'
         repeated_least = least_good j row' r.one again
 
-      pub still_changing : ¬ SameTo g.places row' next' → StillChanging g top t row row' next next' j
+      pub still_changing : ¬ (take g.places row' ≡ take g.places next') → StillChanging g top t row row' next next' j
       still_changing no_same = record {
         changing = until row' next' j r no_same;
         row_held = is_row j row' r.one;
@@ -230,5 +246,5 @@ module _ (g : Game) (wf : WellFormed g) (top : ℕ) (t : Table) (keeps : Keeps t
         next_kept = next_kept;
       }
 
-      pub gives_up_early : ¬ SameTo g.places row' next' → g.places * (top + 1) ≤ j → ⊥
+      pub gives_up_early : ¬ (take g.places row' ≡ take g.places next') → g.places * (top + 1) ≤ j → ⊥
       gives_up_early no_same le = let w = some_repeats in until row' next' j r no_same w.0 (let z = w.1 in omega arith) w.2

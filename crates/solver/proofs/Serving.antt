@@ -1,7 +1,6 @@
--- The levels from which the first moves of a place serve.
-use Rattle.std.proofs.Common.{◌≡◌, ℕ, ◌+◌, ◌<◌, ◌≤◌, ◌⊎◌, List, Some, sym, ◌∙◌, subst, inl, inr, arith}
+-- The levels from which the moves of a place serve.
+use Rattle.std.proofs.Common.{◌≡◌, ℕ, ◌<◌, ◌≤◌, List, Some, sym, ◌∙◌, subst, arith}
 use Rattle.std.specs.List.{slice_get}
-use Rattle.std.proofs.lemmas.Bool.{cases_lt}
 use Rattle.game.specs.declared.Edge.{Edge}
 use Rattle.game.specs.declared.Owner.{Owner}
 use Rattle.game.specs.declared.Owner.TheVariants.{Ours, Theirs}
@@ -12,64 +11,38 @@ use Rattle.game.specs.Fill.{Choice, Step}
 use Rattle.game.proofs.Base.{some_inj}
 use Rattle.hopper.specs.Boards.{owner_at, step_at, count_at}
 use Rattle.hopper.proofs.Boards.{step_place, step_at_lem, step_below, owned}
-use Rattle.solver.specs.Entries.{never}
 use Rattle.solver.specs.Least.{Parts}
-use Rattle.solver.specs.RowSteps.{Enough, Serves, SomeServes, EachServes}
-use Rattle.solver.proofs.Parting.{parts_none, parts_all, parts_map, parts_or, parts_and}
-
--- one of the first n moves serves
-abbrev pub SomeTried : Game → Table → List ℕ → ℕ → ℕ → ℕ → Type 0
-SomeTried g t row p n c = (m : ℕ) × (m < n) × (e : Edge) × (step_at (g.at p) m ≡ Some e) × Serves t row e c
-
--- each of them does
-abbrev pub EachTried : Game → Table → List ℕ → ℕ → ℕ → ℕ → Type 0
-EachTried g t row p n c = (m : ℕ) → m < n → (e : Edge) → step_at (g.at p) m ≡ Some e → Serves t row e c
+use Rattle.solver.specs.RowSteps.{Enough, Serves, NeededFor, SomeServes, EachServes}
+use Rattle.solver.proofs.Parting.{parts_map}
 
 module _ (g : Game) (top : ℕ) (fits : top ≤ most_top) (t : Table) (row : List ℕ) (p : ℕ) where
-  pub some_none : Parts top (SomeTried g t row p 0) never
-  some_none = parts_none top fits (SomeTried g t row p 0) (λ c le w. let z = w.1 in omega arith)
+  -- what one move needs is said of it wherever it is read
+  serves_at : (m n c : ℕ) (e : Edge) → (need : NeededFor g top t row p m n) → step_at (g.at p) m ≡ Some e → Serves t row need.move c → Serves t row e c
+  serves_at m n c e need is s = subst (λ (x : Edge). Serves t row x c) (some_inj (sym need.is_move ∙ is)) s
 
-  pub each_none : Parts top (EachTried g t row p 0) 0
-  each_none = parts_all top fits (EachTried g t row p 0) (λ c le m lt e h. absurd (omega arith))
+  serves_back : (m n c : ℕ) (e : Edge) → (need : NeededFor g top t row p m n) → step_at (g.at p) m ≡ Some e → Serves t row e c → Serves t row need.move c
+  serves_back m n c e need is s = subst (λ (x : Edge). Serves t row x c) (some_inj (sym is ∙ need.is_move)) s
 
-  module _ (n : ℕ) (e : Edge) (is : step_at (g.at p) n ≡ Some e) (best level new : ℕ) (asked : Parts top (Serves t row e) level) where
-    pub some_more : ((new ≡ best) × (best ≤ level)) ⊎ ((new ≡ level) × (level ≤ best)) → Parts top (SomeTried g t row p n) best → Parts top (SomeTried g t row p (n + 1)) new
-    some_more way tried =
-        parts_map top fits (λ c. SomeTried g t row p n c ⊎ Serves t row e c) (SomeTried g t row p (n + 1))
-        (λ c le w. elim w [ inl v ↦ (v.0, (let z = v.1 in omega arith), v.2, v.3, v.4) | inr a ↦ (n, omega arith, e, is, a) ])
-        (λ c le w. elim (cases_lt w.0 n) [
-          | inl lt ↦ inl (w.0, lt, w.2, w.3, w.4)
-          | inr ge ↦ (let same : w.0 ≡ n = (let z = w.1 in omega arith) in
-              let here : step_at (g.at p) n ≡ Some w.2 = subst (λ (k : ℕ). step_at (g.at p) k ≡ Some w.2) same w.3 in
-              inr (subst (λ (x : Edge). Serves t row x c) (some_inj (sym here ∙ is)) w.4))
-        ])
-        new (parts_or top fits (SomeTried g t row p n) (Serves t row e) best level new way tried asked)
+  -- the least that a move needs, and the most
+  pub least_serves : (z : ℕ) → ((m : ℕ) → m < count_at (g.at p) → (n : ℕ) × NeededFor g top t row p m n × (z ≤ n))
+      → (m : ℕ) × NeededFor g top t row p m z → Parts top (SomeServes g t row p) z
+  least_serves z all one = record {
+    level = one.1.parts.level;
+    above = λ c le h. (one.0, one.1.move, one.1.is_move, one.1.parts.above c le h);
+    below = λ c lt h w.
+        let n = all w.0 (step_below (g.at p) w.0 w.1 w.2) in
+        n.1.parts.below c (omega (arith, n.2)) h (serves_back w.0 n.0 c w.1 n.1 w.2 w.3);
+  }
 
-    pub each_more : ((new ≡ best) × (level ≤ best)) ⊎ ((new ≡ level) × (best ≤ level)) → Parts top (EachTried g t row p n) best → Parts top (EachTried g t row p (n + 1)) new
-    each_more way tried =
-        parts_map top fits (λ c. EachTried g t row p n c × Serves t row e c) (EachTried g t row p (n + 1))
-        (λ c le w m lt x h. elim (cases_lt m n) [
-          | inl less ↦ w.0 m less x h
-          | inr ge ↦ (let same : m ≡ n = omega arith in
-              let here : step_at (g.at p) n ≡ Some x = subst (λ (k : ℕ). step_at (g.at p) k ≡ Some x) same h in
-              subst (λ (y : Edge). Serves t row y c) (some_inj (sym is ∙ here)) w.1)
-        ])
-        (λ c le w. (λ m lt x h. w m (omega arith) x h, w n (omega arith) e is))
-        new (parts_and top fits (EachTried g t row p n) (Serves t row e) best level new way tried asked)
-
-  pub some_all : (n best : ℕ) → count_at (g.at p) ≤ n → Parts top (SomeTried g t row p n) best → Parts top (SomeServes g t row p) best
-  some_all n best le tried =
-      parts_map top fits (SomeTried g t row p n) (SomeServes g t row p)
-      (λ c l w. (w.0, w.2, w.3, w.4))
-      (λ c l w. (w.0, (let z = step_below (g.at p) w.0 w.1 w.2 in omega arith), w.1, w.2, w.3))
-      best tried
-
-  pub each_all : (n best : ℕ) → count_at (g.at p) ≤ n → Parts top (EachTried g t row p n) best → Parts top (EachServes g t row p) best
-  each_all n best le tried =
-      parts_map top fits (EachTried g t row p n) (EachServes g t row p)
-      (λ c l w m e h. w m (let z = step_below (g.at p) m e h in omega arith) e h)
-      (λ c l w m lt e h. w m e h)
-      best tried
+  pub most_serves : (z : ℕ) → ((m : ℕ) → m < count_at (g.at p) → (n : ℕ) × NeededFor g top t row p m n × (n ≤ z))
+      → (m : ℕ) × NeededFor g top t row p m z → Parts top (EachServes g t row p) z
+  most_serves z all one = record {
+    level = one.1.parts.level;
+    above = λ c le h m e is.
+        let n = all m (step_below (g.at p) m e is) in
+        serves_at m n.0 c e n.1 is (n.1.parts.above c (omega (arith, n.2)) h);
+    below = λ c lt h w. one.1.parts.below c lt h (w one.0 one.1.move one.1.is_move);
+  }
 
   -- by the owner of the place
   pub some_step : (n : ℕ) → owner_at (g.at p) ≡ Some Ours → Parts top (SomeServes g t row p) n → Parts top (Step g t (Enough row) p) n

@@ -1,13 +1,14 @@
 -- The unfolded board answers as the code does.
-use Rattle.std.proofs.Common.{◌≡◌, ℕ, zero, suc, ◌+◌, ◌/◌, ◌%◌, ◌<◌, ◌≤◌, Bool, true, false, cond, ltb, leb, List, [], ◌∷◌, Some, None, Option, sym, refl, ap, ◌∙◌, arith}
+use Rattle.std.proofs.Common.{◌≡◌, ℕ, zero, suc, ◌+◌, ◌*◌, ◌/◌, ◌%◌, ◌<◌, ◌≤◌, Bool, true, false, cond, ltb, leb, List, [], ◌∷◌, Some, None, Option, sym, refl, ap, ◌∙◌, arith}
 use lib.Arith.{digits_lt}
 use Rattle.std.proofs.lemmas.Bool.{cond-true, leb-true, le-leb, lt-ltb}
 use Rattle.std.specs.List.{slice_get}
+use Rattle.std.specs.Option.{MatchOption}
 use Rattle.game.specs.declared.Edge.{Edge}
 use Rattle.game.specs.Game.{Place, Game}
 use Rattle.game.specs.Limits.{most_fills}
 use Rattle.game.specs.Vessel.{Table}
-use Rattle.game.specs.Forced.{cell, spill, unfold_edge, unfold_moves, unfold_place, alone, unfold_at, only_spill, unfolded}
+use Rattle.game.specs.Forced.{cell, spill, landing, unfold_edge, unfold_moves, unfold_place, alone, unfold_at, only_spill, unfolded}
 use Rattle.game.proofs.Base.{none_some}
 use Rattle.game.proofs.Unfold.{nth_in, length_unfold}
 use Rattle.hopper.specs.Boards.{moves_at, step_at}
@@ -76,3 +77,8 @@ module _ (g : Game) (top : ℕ) (t : Table) where
 
   pub number_of : (q c : ℕ) → q < g.places → c ≤ top → cell top q c < spill g top
   number_of q c h l = digits_lt h (omega arith)
+
+  -- the level that was poured to, or the spill, is where a move lands
+  pub landed : (q n s w : ℕ) (o : Option ℕ) → s ≡ spill g top → w ≡ top → MatchOption o (n ≡ s) (λ level. n ≡ q * (w + 1) + level) → n ≡ landing g top q o
+  landed q n s w None spilt width is = is ∙ spilt
+  landed q n s w (Some level) spilt width is = is ∙ ap (λ (k : ℕ). q * (k + 1) + level) width

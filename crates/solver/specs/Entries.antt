@@ -24,11 +24,6 @@ pub record IsLargest (n : ℕ) (buffer : List ℕ) (largest : ℕ) : Type 0 wher
   pub most : (k x : ℕ) → k < n → entries buffer k ≡ Some x → x ≤ largest
   pub attained : (k : ℕ) × (k < n) × (entries buffer k ≡ Some largest)
 
--- the first n entries are the value, the others as they were
-pub record Filled (n value : ℕ) (old new : List ℕ) : Type 0 where
-  pub front : (k : ℕ) → k < n → slice_index new k ≡ value
-  pub rest : (k : ℕ) → n ≤ k → slice_index new k ≡ slice_index old k
-
 -- b tells whether P holds
 abbrev pub Tells : Bool → Type 0 → Type 0
 Tells true P = P

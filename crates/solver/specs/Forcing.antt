@@ -3,12 +3,11 @@ use Rattle.std.specs.Prelude.{◌≡◌, ℕ, ◌<◌, ◌≤◌, Bool, ◌⊎�
 use Rattle.game.specs.declared.Edge.{Edge}
 use Rattle.game.specs.Game.{Game}
 use Rattle.game.specs.Forced.{ForcesInto, IsForced}
-use Rattle.hopper.specs.declared.Check.{Check}
+use Rattle.hopper.specs.Faults.{Check, check}
 use Rattle.hopper.specs.declared.Fault.{Fault}
 use Rattle.hopper.specs.declared.Layer.TheVariants.{Rest}
 use Rattle.hopper.specs.declared.Refusal.TheVariants.{NoSuchPlace, MarksTooShort}
 use Rattle.hopper.specs.Boards.{step_at}
-use Rattle.hopper.specs.Faults.{check}
 use Rattle.hopper.specs.Refusing.{Answers}
 use Rattle.solver.specs.Entries.{never, entries, KeptFrom, IsLargest, Tells}
 
@@ -30,6 +29,10 @@ ForcedAnswers g target old new = Answers (forced_checks g target (length old)) (
 -- the place has a mark below the round
 abbrev pub MarkedBelow : List ℕ → ℕ → ℕ → Type 0
 MarkedBelow marks round p = slice_index marks p < round
+
+-- the place's move m leads into P
+abbrev pub LeadsTo : Game → (ℕ → Type 0) → ℕ → ℕ → Type 0
+LeadsTo g P p m = (e : Edge) × (step_at (g.at p) m ≡ Some e) × P e.target
 
 -- some move of the place leads into P
 abbrev pub SomeLeads : Game → (ℕ → Type 0) → ℕ → Type 0

@@ -4,11 +4,10 @@ use Rattle.game.specs.Game.{Game, drop_sum}
 use Rattle.game.specs.Vessel.{Table, lip, unlimited}
 use Rattle.game.specs.Fill.{Good, IsLeast, IsRow, LeastGood, Repeats, FirstRepeat}
 use Rattle.game.specs.Published.{LowerWeakUpperBound, LowerBound}
-use Rattle.hopper.specs.declared.Check.{Check}
+use Rattle.hopper.specs.Faults.{Check, check}
 use Rattle.hopper.specs.declared.Fault.{Fault}
 use Rattle.hopper.specs.declared.Layer.TheVariants.{Rest}
 use Rattle.hopper.specs.declared.Refusal.TheVariants.{RowTooShort, RowsKeepChanging}
-use Rattle.hopper.specs.Faults.{check}
 use Rattle.hopper.specs.Refusing.{verdict}
 use Rattle.solver.specs.Entries.{never, entries, KeptFrom}
 

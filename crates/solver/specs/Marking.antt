@@ -7,11 +7,10 @@ use Rattle.game.specs.Fill.{Good, IsMark}
 use Rattle.game.specs.Forced.{cell, spill}
 use Rattle.game.specs.Play.{Fate, OtherSideForces}
 use Rattle.game.specs.Published.{LowerWeakUpperBound, IntervalBound}
-use Rattle.hopper.specs.declared.Check.{Check}
+use Rattle.hopper.specs.Faults.{Check, check}
 use Rattle.hopper.specs.declared.Fault.{Fault}
 use Rattle.hopper.specs.declared.Layer.TheVariants.{Rest}
 use Rattle.hopper.specs.declared.Refusal.TheVariants.{TooManyFills, MarksTooShort}
-use Rattle.hopper.specs.Faults.{check}
 use Rattle.hopper.specs.Refusing.{Answers}
 use Rattle.solver.specs.Entries.{never, entries, KeptFrom, IsLargest}
 

@@ -8,12 +8,11 @@ use Rattle.game.specs.Vessel.{Table}
 use Rattle.game.specs.Fill.{Row}
 use Rattle.game.specs.Play.{Run, IsMove, Leads, Poured}
 use Rattle.game.specs.Rows.{IsNeed}
-use Rattle.hopper.specs.declared.Check.{Check}
+use Rattle.hopper.specs.Faults.{Check, check}
 use Rattle.hopper.specs.declared.Fault.{Fault}
 use Rattle.hopper.specs.declared.Layer.TheVariants.{Rest}
 use Rattle.hopper.specs.declared.Refusal.TheVariants.{NoSuchPlace, RowTooShort, PlanAtTheirs, NoMoveServes}
 use Rattle.hopper.specs.Boards.{owner_at, step_at}
-use Rattle.hopper.specs.Faults.{check}
 use Rattle.hopper.specs.Refusing.{verdict}
 use Rattle.solver.specs.Entries.{never, entries}
 use Rattle.solver.specs.Least.{GoodFrom}

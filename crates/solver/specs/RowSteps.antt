@@ -1,11 +1,11 @@
 -- What the steps of `least` do.
-use Rattle.std.specs.Prelude.{◌≡◌, ℕ, ◌<◌, ◌≤◌, List, Some, slice_index}
+use Rattle.std.specs.Prelude.{◌≡◌, ℕ, ◌<◌, ◌≤◌, List, Some, None, Option, slice_index}
 use Rattle.game.specs.declared.Edge.{Edge}
 use Rattle.game.specs.Game.{Game}
 use Rattle.game.specs.Vessel.{Table}
 use Rattle.game.specs.Fill.{Step}
 use Rattle.game.specs.Rows.{Reaches}
-use Rattle.hopper.specs.Boards.{step_at}
+use Rattle.hopper.specs.Boards.{step_at, count_at}
 use Rattle.solver.specs.Least.{Parts}
 
 -- the level is at least the place's entry
@@ -15,6 +15,29 @@ Enough row p c = slice_index row p ≤ c
 -- from the level c the move leads to its target's entry or above
 abbrev pub Serves : Table → List ℕ → Edge → ℕ → Type 0
 Serves t row e c = Reaches t (slice_index row e.target) e.amount c
+
+-- the level is the lowest from which the place's move m serves, or never
+pub record NeededFor (g : Game) (top : ℕ) (t : Table) (row : List ℕ) (p m level : ℕ) : Type 0 where
+  pub move : Edge
+  pub is_move : step_at (g.at p) m ≡ Some move
+  pub parts : Parts top (Serves t row move) level
+
+-- its move m needs more than this level
+pub record NeedsMore (g : Game) (top : ℕ) (t : Table) (row : List ℕ) (p level m : ℕ) : Type 0 where
+  pub needed : ℕ
+  pub is_needed : NeededFor g top t row p m needed
+  pub more : level < needed
+
+-- its move m serves from this level or one below
+pub record NeedsAtMost (g : Game) (top : ℕ) (t : Table) (row : List ℕ) (p level m : ℕ) : Type 0 where
+  pub needed : ℕ
+  pub is_needed : NeededFor g top t row p m needed
+  pub enough : needed ≤ level
+
+-- its first such move, None where each move needs more
+abbrev pub FirstServing : Game → ℕ → Table → List ℕ → ℕ → ℕ → Option ℕ → Type 0
+FirstServing g top t row p level None = (m : ℕ) → m < count_at (g.at p) → NeedsMore g top t row p level m
+FirstServing g top t row p level (Some m) = NeedsAtMost g top t row p level m × ((k : ℕ) → k < m → NeedsMore g top t row p level k)
 
 -- from the level c some move of the place serves
 abbrev pub SomeServes : Game → Table → List ℕ → ℕ → ℕ → Type 0
@@ -28,12 +51,3 @@ EachServes g t row p c = (m : ℕ) (e : Edge) → step_at (g.at p) m ≡ Some e 
 pub record NextRow (g : Game) (top : ℕ) (t : Table) (n : ℕ) (row old next : List ℕ) : Type 0 where
   pub front : (p : ℕ) → p < n → Parts top (Step g t (Enough row) p) (slice_index next p)
   pub rest : (k : ℕ) → n ≤ k → slice_index next k ≡ slice_index old k
-
--- the first n entries are those of the other buffer, the others as they were
-pub record Copied (n : ℕ) (from old new : List ℕ) : Type 0 where
-  pub front : (p : ℕ) → p < n → slice_index new p ≡ slice_index from p
-  pub rest : (k : ℕ) → n ≤ k → slice_index new k ≡ slice_index old k
-
--- the first n entries of both are the same
-abbrev pub SameTo : ℕ → List ℕ → List ℕ → Type 0
-SameTo n a b = (p : ℕ) → p < n → slice_index a p ≡ slice_index b p

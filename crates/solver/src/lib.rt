@@ -1,18 +1,19 @@
 // The solvers: who can force a run where, how long fills hold, the least fills that hold for ever, and the moves that keep them.
 #![tactic(auto)]
 
+mod buffer;
 pub mod forcing;
 pub mod marking;
-mod moves;
 pub mod planning;
 pub mod rows;
 pub mod unfolded;
 
 pub use forcing::forced;
-pub use marking::mark;
+pub use marking::{mark, marks_needed};
 pub use planning::plan;
 pub use rows::least;
-pub use unfolded::Unfolded;
+pub use unfolded::{Unfolded, fills};
 
 // The number that stands for never in a buffer.
+// kept as it is: a rule of the project, marks and rows are plain numbers in memory that the caller gives.
 pub const NEVER: u32 = 4_294_967_295;

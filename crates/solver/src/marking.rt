@@ -1,11 +1,22 @@
 // How long each fill holds.
+ghost use Rattle.std.specs.Prelude.{◌≡◌, ◌+◌, min};
+ghost use Rattle.game.specs.Forced.{spill};
+ghost use Rattle.game.specs.Limits.{most_fills};
 ghost use Rattle.hopper.specs.Accepting.{Accepted};
 ghost use Rattle.solver.specs.Marking.{MarkAnswers, TellsFates, NeverIsGood, NeverOrWithin, BadIsForcedWithin, OneAboveTop, EachFillHasFate, NeverWinsLowerWeakUpperBound, NeverWinsIntervalBound};
 
 use super::forcing::forced;
-use super::unfolded::Unfolded;
+use super::unfolded::{Unfolded, fills};
 use hopper::limits::MOST_FILLS;
-use hopper::{Board, Check, Fault, Layer, Refusal, Vessel, pass};
+use hopper::{Board, Fault, Layer, Refusal, Vessel, check, pass};
+
+// kept as it is: no plainer, the struct of both is `Unfolded`, which `mark` makes; were it asked of the caller, each clause would name board and vessel through its fields.
+// How many entries `mark` asks for: one for each fill and one for the spill. Where there are too many fills to mark, as many as for the most.
+pub fn marks_needed<B: Board, V: Vessel>(board: &B, vessel: &V) -> usize
+    ensures { result ≡ min (spill (B.Board.game board.now) (V.Vessel.top vessel.now)) most_fills + 1 }
+{
+    fills(board, vessel).min(MOST_FILLS) as usize + 1
+}
 
 // Finds, fill by fill, within how many moves the other side can bring about a refusal, and answers the largest of these numbers.
 // On the unfolded board a refusal is a run that comes to the spill.
@@ -25,13 +36,13 @@ pub fn mark<'x, B: Board, V: Vessel>(
     ensures each { Accepted (λ _. EachFillHasFate (B.Board.game board.now) (V.Vessel.table vessel.now)) result }
 {
     let top = vessel.top();
-    let product = board.places() as u64 * (top as u64 + 1);
-    pass(&[Check::new(
-        product > MOST_FILLS,
+    let count = fills(board, vessel);
+    pass(&[check(
+        count > MOST_FILLS,
         Refusal::TooManyFills,
         Layer::Rest,
         top as u64,
     )])?;
     let unfolded = Unfolded { board, vessel };
-    forced(&unfolded, product as u32, marks)
+    forced(&unfolded, count as u32, marks)
 }

@@ -1,22 +1,29 @@
 // The move that keeps to a row.
-ghost use Rattle.std.specs.Prelude.{◌≡◌};
-ghost use Rattle.solver.specs.Planning.{is_theirs, PlanAnswers, AnswersWhereGood, PlannedRunsArePoured};
+ghost use Rattle.std.specs.Prelude.{◌<◌};
+ghost use Rattle.hopper.specs.Boards.{count_at};
+ghost use Rattle.solver.specs.Planning.{PlanAnswers, AnswersWhereGood, PlannedRunsArePoured};
+ghost use Rattle.solver.specs.RowSteps.{FirstServing};
 
 use super::NEVER;
-use super::moves::{move_at, move_count};
-use super::rows::needed;
+use super::buffer::Entries;
 use game::Owner;
-use hopper::{Board, Check, Fault, Graded, Layer, Refusal, Vessel, pass};
+use hopper::{Board, Fault, Graded, Layer, Refusal, Vessel, check, pass};
 
-// Whether the place of this owner is theirs.
-fn is_theirs(owner: Option<Owner>) -> bool
-    ensures { result ≡ is_theirs owner }
+// The first move of the place that needs no more than the level for its target's entry.
+fn first_serving<B: Board, V: Graded>(
+    row: &Entries<B>,
+    vessel: &V,
+    place: u32,
+    level: u32,
+) -> Option<u32>
+    requires { place < (B.Board.game row.now.board.now).places }
+    ensures { FirstServing (B.Board.game row.now.board.now) (V.Vessel.top vessel.now) (V.Vessel.table vessel.now) row.now.entries.now place level result }
 {
-    match owner {
-        Some(Owner::Theirs) => true,
-        Some(Owner::Ours) => false,
-        None => false,
-    }
+    (0..row.move_count(place)).find(
+        |&m|
+            requires { m < count_at ((B.Board.game row.now.board.now).at place) }
+        { row.needed(vessel, place, m) <= level },
+    )
 }
 
 // The first move of the place that needs no more than the place's entry for its target's entry.
@@ -31,21 +38,21 @@ pub fn plan<B: Board, V: Graded>(
     ensures runs { PlannedRunsArePoured (B.Board.game board.now) (V.Vessel.top vessel.now) (V.Vessel.table vessel.now) row.now }
 {
     let places = board.places();
-    let theirs = is_theirs(board.owner(place));
+    let theirs = board.owner(place) == Some(Owner::Theirs);
     pass(&[
-        Check::new(
+        check(
             place >= places,
             Refusal::NoSuchPlace,
             Layer::Rest,
             place as u64,
         ),
-        Check::new(
+        check(
             row.len() < places as usize,
             Refusal::RowTooShort,
             Layer::Rest,
             places as u64,
         ),
-        Check::new(theirs, Refusal::PlanAtTheirs, Layer::Rest, place as u64),
+        check(theirs, Refusal::PlanAtTheirs, Layer::Rest, place as u64),
     ])?;
     let unserved = Fault {
         refusal: Refusal::NoMoveServes,
@@ -56,11 +63,9 @@ pub fn plan<B: Board, V: Graded>(
     if entry == NEVER {
         return Err(unserved);
     }
-    for m in 0..move_count(board, place) {
-        let edge = move_at(board, place, m);
-        if needed(vessel, row[edge.target as usize], edge.amount) <= entry {
-            return Ok(m);
-        }
-    }
-    Err(unserved)
+    let row = Entries {
+        board,
+        entries: row,
+    };
+    first_serving(&row, vessel, place, entry).ok_or(unserved)
 }

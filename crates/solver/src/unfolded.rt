@@ -1,6 +1,6 @@
 // The board of all the fills: each place at each level, and the spill that refused moves lead to.
 ghost use Rattle.std.specs.Prelude.{◌≡◌};
-ghost use Rattle.game.specs.Forced.{unfolded};
+ghost use Rattle.game.specs.Forced.{spill, unfolded};
 ghost use Rattle.game.proofs.Unfold.{unfolded_is_well_formed};
 ghost use Rattle.solver.specs.Unfolding.{fill_count};
 
@@ -15,15 +15,20 @@ pub struct Unfolded<'a, B: Board, V: Vessel> {
     pub vessel: &'a V,
 }
 
-// How many fills there are, 0 where they are too many. It is the number of the spill.
-fn fill_count<B: Board, V: Vessel>(board: &B, vessel: &V) -> u32
-    ensures { result ≡ fill_count (B.Board.game board.now) (V.Vessel.top vessel.now) }
+// How many fills there are up to the top, at all places together.
+pub fn fills<B: Board, V: Vessel>(board: &B, vessel: &V) -> u64
+    ensures { result ≡ spill (B.Board.game board.now) (V.Vessel.top vessel.now) }
 {
-    let product = board.places() as u64 * (vessel.top() as u64 + 1);
-    if product <= MOST_FILLS {
-        product as u32
-    } else {
-        0
+    board.places() as u64 * (vessel.top() as u64 + 1)
+}
+
+impl<B: Board, V: Vessel> Unfolded<'_, B, V> {
+    // How many fills there are, 0 where they are too many. It is the number of the spill.
+    fn spill(&self) -> u32
+        ensures { result ≡ fill_count (B.Board.game self.now.board.now) (V.Vessel.top self.now.vessel.now) }
+    {
+        let count = fills(self.board, self.vessel);
+        if count <= MOST_FILLS { count as u32 } else { 0 }
     }
 }
 
@@ -33,54 +38,42 @@ impl<B: Board, V: Vessel> Board for Unfolded<'_, B, V> {
     ghost formed = { λ u. unfolded_is_well_formed (B.Board.game u.board.now) (B.Board.formed u.board.now) (V.Vessel.top u.vessel.now) (V.Vessel.table u.vessel.now) (V.Vessel.keeps u.vessel.now) };
 
     fn places(&self) -> u32 {
-        fill_count(self.board, self.vessel) + 1
+        self.spill() + 1
     }
 
     fn owner(&self, place: u32) -> Option<Owner> {
-        let spill = fill_count(self.board, self.vessel);
+        let spill = self.spill();
         if place < spill {
             self.board.owner(place / (self.vessel.top() + 1))
-        } else if place == spill {
-            Some(Owner::Ours)
         } else {
-            None
+            (place == spill).then_some(Owner::Ours)
         }
     }
 
+    // kept as it is: no plainer, joined with `owner` it would take a closure for the board's answer and a value for the spill's
     fn moves(&self, place: u32) -> Option<u32> {
-        let spill = fill_count(self.board, self.vessel);
+        let spill = self.spill();
         if place < spill {
             self.board.moves(place / (self.vessel.top() + 1))
-        } else if place == spill {
-            Some(1)
         } else {
-            None
+            (place == spill).then_some(1)
         }
     }
 
     fn step(&self, place: u32, mv: u32) -> Option<Edge> {
-        let spill = fill_count(self.board, self.vessel);
-        if place > spill {
-            return None;
-        }
-        if place == spill {
-            return if mv == 0 {
-                Some(Edge {
-                    target: spill,
-                    amount: 0,
-                })
-            } else {
-                None
-            };
+        let spill = self.spill();
+        if place >= spill {
+            return (place == spill && mv == 0).then_some(Edge {
+                target: spill,
+                amount: 0,
+            });
         }
         let width = self.vessel.top() + 1;
-        let Some(edge) = self.board.step(place / width, mv) else {
-            return None;
-        };
-        let target = match self.vessel.pour(place % width, edge.amount) {
-            Some(level) => edge.target * width + level,
-            None => spill,
-        };
+        let edge = self.board.step(place / width, mv)?;
+        let target = self
+            .vessel
+            .pour(place % width, edge.amount)
+            .map_or(spill, |level| edge.target * width + level);
         Some(Edge { target, amount: 0 })
     }
 }

@@ -1,22 +1,21 @@
 // Look-ahead: its refusals, no moves at all, and agreement with the marks of all fills.
-use crate::lines::{file_of, line_p, line_q, line_q_drawn};
+use crate::lines::{Told, file_of, line_p, line_q, line_q_drawn, told};
 use crate::marks::mark_file;
+use hopper::Fault;
 use linefile::FileLine;
-use lineformat::{MoveRecord, PlaceRecord};
+use lineformat::{Kind, MoveRecord, PlaceRecord};
 use lookahead::look_ahead;
 use std::alloc::{AllocError, Global};
 use std::test::Fail;
 
 // What a look-ahead answers: 1 or 0 for true or false, or number, layer and spot of its fault.
-fn look(heap: Global, file: &[u8], place: u32, fill: u32, k: u32) -> (u8, u8, u64) {
-    let mut line = FileLine::built_in();
-    match line.read(file) {
-        Err(fault) => (fault.number(), fault.layer.number(), fault.spot),
-        Ok(()) => match look_ahead(heap, &line, place, fill, k) {
-            Ok(held) => (0, 0, held as u64),
-            Err(fault) => (fault.number(), fault.layer.number(), fault.spot),
-        },
-    }
+fn looked(heap: Global, file: &[u8], place: u32, fill: u32, k: u32) -> Result<bool, Fault> {
+    let line = FileLine::try_from(file)?;
+    look_ahead(heap, &line, place, fill, k)
+}
+
+fn look(heap: Global, file: &[u8], place: u32, fill: u32, k: u32) -> Told {
+    told(looked(heap, file, place, fill, k))
 }
 
 // Whether look-ahead and marks say the same of every fill and every number of moves: a fill holds for k moves just where its mark is more than k.
@@ -28,13 +27,10 @@ fn agrees(heap: Global, file: &[u8], places: u32, top: u32) -> Result<bool, Allo
     if number != 0 {
         return Ok(false);
     }
-    for place in 0..places {
-        for fill in 0..levels {
+    for (place, row) in (0..places).zip(marks.chunks_exact(levels.max(1) as usize)) {
+        for (fill, mark) in (0..levels).zip(row) {
+            // kept as it is: no plainer, each number of moves is a question of its own
             for k in 0..7 {
-                let cell = place.saturating_mul(levels).saturating_add(fill) as usize;
-                let Some(mark) = marks.get(cell) else {
-                    return Ok(false);
-                };
                 if look(heap, file, place, fill, k) != (0, 0, (k < *mark) as u64) {
                     return Ok(false);
                 }
@@ -49,7 +45,7 @@ fn to(target: u16, amount: i16) -> MoveRecord {
 }
 
 // Three places, ours, theirs and ours, with more than one way between them: amounts that a full vessel loses, and amounts that an empty one lacks.
-fn line_r(heap: Global, kind: u8, top: u32, draw: u16) -> Result<Vec<u8>, AllocError> {
+fn line_r(heap: Global, kind: Kind, top: u32, draw: u16) -> Result<Vec<u8>, AllocError> {
     let places = [
         PlaceRecord {
             owner: 0,
@@ -83,7 +79,7 @@ fn line_r(heap: Global, kind: u8, top: u32, draw: u16) -> Result<Vec<u8>, AllocE
 
 #[test]
 fn look_ahead_refuses_by_its_order(rt: HostRuntime) -> Result<(), Fail> {
-    let file = line_q(rt.alloc(), 0, 10)?;
+    let file = line_q(rt.alloc(), Kind::Lip, 10)?;
     let cases = [
         (2, 11, 7, 18, 2),
         (4_294_967_295, 0, 0, 18, 4_294_967_295),
@@ -100,7 +96,7 @@ fn look_ahead_refuses_by_its_order(rt: HostRuntime) -> Result<(), Fail> {
 
 #[test]
 fn each_fill_holds_for_no_moves(rt: HostRuntime) -> Result<(), Fail> {
-    let file = line_q(rt.alloc(), 1, 5)?;
+    let file = line_q(rt.alloc(), Kind::Closed, 5)?;
     for place in 0..2 {
         for fill in 0..6 {
             assert_eq!(rt; look(rt.alloc(), &file, place, fill, 0), (0, 0, 1));
@@ -113,7 +109,7 @@ fn each_fill_holds_for_no_moves(rt: HostRuntime) -> Result<(), Fail> {
 #[test]
 fn look_ahead_agrees_with_all_marks(rt: HostRuntime) -> Result<(), Fail> {
     let heap = rt.alloc();
-    for (kind, draw) in [(0, 0), (1, 0), (2, 1)] {
+    for (kind, draw) in [(Kind::Lip, 0), (Kind::Closed, 0), (Kind::Drawn, 1)] {
         for top in [0, 4, 5, 6, 11, 20] {
             let p = line_p(heap, kind, top, draw)?;
             assert!(rt; agrees(heap, &p, 2, top)?);

@@ -21,26 +21,18 @@ impl Board for Leak {
     }
 
     fn owner(&self, place: u32) -> Option<Owner> {
-        if place == 0 {
-            Some(Owner::Theirs)
-        } else {
-            None
-        }
+        (place == 0).then_some(Owner::Theirs)
     }
 
     fn moves(&self, place: u32) -> Option<u32> {
-        if place == 0 { Some(1) } else { None }
+        (place == 0).then_some(1)
     }
 
     fn step(&self, place: u32, mv: u32) -> Option<Edge> {
-        if place == 0 && mv == 0 {
-            Some(Edge {
-                target: 0,
-                amount: -1,
-            })
-        } else {
-            None
-        }
+        (place == 0 && mv == 0).then_some(Edge {
+            target: 0,
+            amount: -1,
+        })
     }
 }
 

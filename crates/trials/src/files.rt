@@ -1,5 +1,7 @@
 // Line files: the pit and the press, and what each damage to their file is refused by.
+use crate::lines::{Told, told, told_whether};
 use hopper::{Fault, Layer, Refusal};
+use linefile::input::file_bytes;
 use linefile::{FileLine, LineTables};
 use lineformat::{Kind, MoveRecord, PlaceRecord};
 use std::alloc::{AllocError, Global};
@@ -10,22 +12,18 @@ const PIT: &[u8; 40] =
     b"pitpress\x01\0\x05\0\0\0\xFB\xFF\0\x03\x01\0\0\x05\x01\0\x02\0\x02\0\x06\0\0\0\0\0\0\x01\x10\0\0\0";
 
 // What reading a file answers: number, layer and spot of the fault, or zeros where it is accepted.
-fn reading(file: &[u8]) -> (u8, u8, u64) {
-    let mut line = FileLine::built_in();
-    match line.read(file) {
-        Ok(()) => (0, 0, 0),
-        Err(fault) => (fault.number(), fault.layer.number(), fault.spot),
-    }
+fn reading(file: &[u8]) -> Told {
+    told_whether(FileLine::built_in().read(file))
 }
 
 fn put(file: &mut [u8], at: usize, byte: u8) {
-    if at < file.len() {
-        file[at] = byte;
+    if let Some(old) = file.get_mut(at) {
+        *old = byte;
     }
 }
 
 // Up to three bytes of the file of the pit, put in place of what is there, and what reading then answers.
-struct Damage(usize, u8, usize, u8, usize, u8, (u8, u8, u64));
+struct Damage(usize, u8, usize, u8, usize, u8, Told);
 
 static DAMAGES: [Damage; 44] = [
     // the version, at offset 35
@@ -121,6 +119,17 @@ fn too_short_and_too_long(rt: HostRuntime) -> Result<(), Fail> {
     assert_eq!(rt; reading(&long), (3, 2, 25_611));
     let longer = vec![in rt.alloc(); 0u8; 25_617]?;
     assert_eq!(rt; reading(&longer), (1, 1, 25_616));
+    Ok(())
+}
+
+#[test]
+fn a_file_from_a_reader(rt: HostRuntime) -> Result<(), Fail> {
+    let pit = file_bytes(rt.alloc(), PIT.as_slice())?;
+    assert!(rt; pit.as_slice() == PIT.as_slice());
+    // of what is too long one byte more is read than a file may have
+    let long = vec![in rt.alloc(); 7u8; 30_000]?;
+    let read = file_bytes(rt.alloc(), long.as_slice())?;
+    assert_eq!(rt; read.len(), 25_617);
     Ok(())
 }
 
@@ -334,12 +343,9 @@ fn short_tables_and_outputs(rt: HostRuntime) -> Result<(), Fail> {
 }
 
 // What writing answers: number, layer and spot of the fault, or zeros and the length.
-fn writing(tables: &LineTables) -> (u8, u8, u64) {
+fn writing(tables: &LineTables) -> Told {
     let mut out = [7u8; 64];
-    match tables.write(&mut out) {
-        Ok(n) => (0, 0, n as u64),
-        Err(fault) => (fault.number(), fault.layer.number(), fault.spot),
-    }
+    told(tables.write(&mut out).map(|n| n as u64))
 }
 
 #[test]

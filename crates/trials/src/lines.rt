@@ -1,7 +1,7 @@
 // The two small lines as files, and answers as plain numbers, for the tests.
 use hopper::Fault;
 use linefile::LineTables;
-use lineformat::{MoveRecord, PlaceRecord};
+use lineformat::{Kind, MoveRecord, PlaceRecord};
 use std::alloc::{AllocError, Global};
 
 // A place of ours with one move and no name.
@@ -11,12 +11,25 @@ pub(crate) const OURS: PlaceRecord = PlaceRecord {
     moves: 1,
 };
 
-// What a call answers: zeros and the rounds, or number, layer and spot of its fault.
-pub(crate) fn told(answer: Result<u32, Fault>) -> (u8, u8, u64) {
+// What a call answers, as plain numbers: zeros and what it answered, or number, layer and spot of its fault.
+pub(crate) type Told = (u8, u8, u64);
+
+pub(crate) const ACCEPTED: Told = (0, 0, 0);
+
+pub(crate) fn told<T: Into<u64>>(answer: Result<T, Fault>) -> Told {
     match answer {
-        Ok(rounds) => (0, 0, rounds as u64),
-        Err(fault) => (fault.number(), fault.layer.number(), fault.spot),
+        Ok(number) => (0, 0, number.into()),
+        Err(fault) => refused(fault),
     }
+}
+
+pub(crate) fn refused(fault: Fault) -> Told {
+    (fault.number(), fault.layer.number(), fault.spot)
+}
+
+// The same of a call that answers no number.
+pub(crate) fn told_whether<T: Drop>(answer: Result<T, Fault>) -> Told {
+    told(answer.map(|_| 0u64))
 }
 
 // The file of tables without names.
@@ -24,7 +37,7 @@ pub(crate) fn file_of<'x>(
     heap: Global,
     places: &'x [PlaceRecord],
     moves: &'x [MoveRecord],
-    kind: u8,
+    kind: Kind,
     top: u32,
     draw: u16,
 ) -> Result<Vec<u8>, AllocError> {
@@ -38,7 +51,7 @@ pub(crate) fn file_of<'x>(
         places,
         moves,
         names: b"",
-        kind,
+        kind: kind.number(),
         top,
         draw,
     }
@@ -47,7 +60,7 @@ pub(crate) fn file_of<'x>(
 }
 
 // 5 litres in from place 0 to 1, 5 litres out from 1 to 0; both ours.
-pub(crate) fn line_p(heap: Global, kind: u8, top: u32, draw: u16) -> Result<Vec<u8>, AllocError> {
+pub(crate) fn line_p(heap: Global, kind: Kind, top: u32, draw: u16) -> Result<Vec<u8>, AllocError> {
     file_of(
         heap,
         &[OURS, OURS],
@@ -68,14 +81,14 @@ pub(crate) fn line_p(heap: Global, kind: u8, top: u32, draw: u16) -> Result<Vec<
 }
 
 // At place 0 we take 3 out and go to 1, or pour 2 in and stay; at 1 they pour 4 in or take 2 out, and go to 0.
-pub(crate) fn line_q(heap: Global, kind: u8, top: u32) -> Result<Vec<u8>, AllocError> {
+pub(crate) fn line_q(heap: Global, kind: Kind, top: u32) -> Result<Vec<u8>, AllocError> {
     line_q_drawn(heap, kind, top, 0)
 }
 
 // The same line, with the draw of a drawn vessel.
 pub(crate) fn line_q_drawn(
     heap: Global,
-    kind: u8,
+    kind: Kind,
     top: u32,
     draw: u16,
 ) -> Result<Vec<u8>, AllocError> {

@@ -1,9 +1,9 @@
 // Marks: the two small lines over closed vessels, the edges of what is marked, and boards and vessels of a buyer's own.
 use crate::bought::{Leak, Sieve};
-use crate::lines::{OURS, file_of, line_p, line_q, told};
-use hopper::{Closed, Fault, Lip};
+use crate::lines::{OURS, Told, file_of, line_p, line_q, told, told_whether};
+use hopper::{Closed, Drawn, Fault, Lip};
 use linefile::FileLine;
-use lineformat::{MoveRecord, PlaceRecord};
+use lineformat::{Kind, MoveRecord};
 use solver::{NEVER, forced, mark};
 use std::test::Fail;
 
@@ -11,20 +11,18 @@ use std::test::Fail;
 const OLD: u32 = 77;
 
 // Reads a file and marks its line with its own vessel.
-pub(crate) fn mark_file(file: &[u8], marks: &mut [u32]) -> (u8, u8, u64) {
-    let mut line = FileLine::built_in();
-    match line.read(file) {
-        Err(fault) => (fault.number(), fault.layer.number(), fault.spot),
-        Ok(()) => {
-            let vessel = line.vessel();
-            told(mark(&line, &vessel, marks))
-        }
-    }
+fn marked(file: &[u8], marks: &mut [u32]) -> Result<u32, Fault> {
+    let line = FileLine::try_from(file)?;
+    mark(&line, &line.vessel(), marks)
+}
+
+pub(crate) fn mark_file(file: &[u8], marks: &mut [u32]) -> Told {
+    told(marked(file, marks))
 }
 
 #[test]
 fn p_over_closed_six(rt: HostRuntime) -> Result<(), Fail> {
-    let file = line_p(rt.alloc(), 1, 6, 0)?;
+    let file = line_p(rt.alloc(), Kind::Closed, 6, 0)?;
     let mut marks = [OLD; 17];
     assert_eq!(rt; mark_file(&file, &mut marks), (0, 0, 1));
     assert!(rt;
@@ -38,7 +36,7 @@ fn p_over_closed_six(rt: HostRuntime) -> Result<(), Fail> {
 
 #[test]
 fn q_over_closed_five(rt: HostRuntime) -> Result<(), Fail> {
-    let file = line_q(rt.alloc(), 1, 5)?;
+    let file = line_q(rt.alloc(), Kind::Closed, 5)?;
     let mut marks = [OLD; 13];
     assert_eq!(rt; mark_file(&file, &mut marks), (0, 0, 4));
     assert!(rt; marks == [4, 4, 3, 3, 2, 2, 1, 1, 1, 1, 1, 1, 0]);
@@ -47,7 +45,7 @@ fn q_over_closed_five(rt: HostRuntime) -> Result<(), Fail> {
 
 #[test]
 fn marks_one_entry_short(rt: HostRuntime) -> Result<(), Fail> {
-    let file = line_q(rt.alloc(), 1, 5)?;
+    let file = line_q(rt.alloc(), Kind::Closed, 5)?;
     let mut marks = [OLD; 12];
     assert_eq!(rt; mark_file(&file, &mut marks), (17, 4, 13));
     assert!(rt; marks == [OLD; 12]);
@@ -62,14 +60,14 @@ fn as_many_fills_as_are_marked(rt: HostRuntime) -> Result<(), Fail> {
         amount: 0,
     }; 64];
     let mut marks = vec![in rt.alloc(); OLD; 65_538]?;
-    let most = file_of(rt.alloc(), &places, &moves, 1, 1_023, 0)?;
+    let most = file_of(rt.alloc(), &places, &moves, Kind::Closed, 1_023, 0)?;
     assert_eq!(rt; mark_file(&most, &mut marks), (0, 0, 0));
     assert!(rt; marks.len() == 65_538);
     assert_eq!(rt;
         (marks[0], marks[65_535], marks[65_536], marks[65_537]),
         (NEVER, NEVER, 0, OLD)
     );
-    let more = file_of(rt.alloc(), &places, &moves, 1, 1_024, 0)?;
+    let more = file_of(rt.alloc(), &places, &moves, Kind::Closed, 1_024, 0)?;
     assert_eq!(rt; mark_file(&more, &mut marks), (16, 4, 1_024));
     Ok(())
 }
@@ -102,17 +100,18 @@ fn a_sieve_refuses_nothing(rt: HostRuntime) {
 }
 
 // Reads a file and marks who can be forced to the target.
-fn forced_file(file: &[u8], target: u32, marks: &mut [u32]) -> (u8, u8, u64) {
-    let mut line = FileLine::built_in();
-    match line.read(file) {
-        Err(fault) => (fault.number(), fault.layer.number(), fault.spot),
-        Ok(()) => told(forced(&line, target, marks)),
-    }
+fn forced_on(file: &[u8], target: u32, marks: &mut [u32]) -> Result<u32, Fault> {
+    let line = FileLine::try_from(file)?;
+    forced(&line, target, marks)
+}
+
+fn forced_file(file: &[u8], target: u32, marks: &mut [u32]) -> Told {
+    told(forced_on(file, target, marks))
 }
 
 #[test]
 fn forced_on_a_line(rt: HostRuntime) -> Result<(), Fail> {
-    let file = line_q(rt.alloc(), 0, 10)?;
+    let file = line_q(rt.alloc(), Kind::Lip, 10)?;
     let mut marks = [OLD; 3];
     // from place 0 we never have to go to 1; from 1 they go to 0 at once
     assert_eq!(rt; forced_file(&file, 1, &mut marks), (0, 0, 0));
@@ -127,14 +126,6 @@ fn forced_on_a_line(rt: HostRuntime) -> Result<(), Fail> {
 
 #[test]
 fn vessels_out_of_range(rt: HostRuntime) {
-    let over = match Lip::new(2_560_001) {
-        Ok(_) => (0, 0, 0),
-        Err(fault) => (fault.number(), fault.layer.number(), fault.spot),
-    };
-    assert_eq!(rt; over, (7, 2, 2_560_001));
-    let none = match hopper::Drawn::new(6, 0) {
-        Ok(_) => (0, 0, 0),
-        Err(fault) => (fault.number(), fault.layer.number(), fault.spot),
-    };
-    assert_eq!(rt; none, (7, 2, 0));
+    assert_eq!(rt; told_whether(Lip::new(2_560_001)), (7, 2, 2_560_001));
+    assert_eq!(rt; told_whether(Drawn::new(6, 0)), (7, 2, 0));
 }

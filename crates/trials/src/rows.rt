@@ -1,10 +1,11 @@
 // Rows of least good fills, plans on them, the gauge, and what a plan sheet says of a closed line.
-use crate::lines::{line_p, line_q, told};
+use crate::lines::{Told, line_p, line_q, refused, told};
 use crate::marks::mark_file;
 use game::Owner;
 use gauge::{dip, height};
 use hopper::{AnyVessel, Graded};
 use linefile::FileLine;
+use lineformat::Kind;
 use sheet::SheetRow;
 use sheet::closed::{least_marked_good, ordered_move};
 use solver::{NEVER, least, mark, plan};
@@ -17,19 +18,15 @@ fn least_on<V: Graded>(
     row: &mut [u32],
     next: &mut [u32],
     budget: u64,
-) -> (u8, u8, u64) {
-    match least(line, vessel, row, next, budget) {
-        Ok(rounds) => (0, 0, rounds),
-        Err(fault) => (fault.number(), fault.layer.number(), fault.spot),
-    }
+) -> Told {
+    told(least(line, vessel, row, next, budget))
 }
 
 // The same of a file over a graded vessel; 99 stands for any other file.
-fn least_of(file: &[u8], row: &mut [u32], next: &mut [u32], budget: u64) -> (u8, u8, u64) {
-    let mut line = FileLine::built_in();
-    match line.read(file) {
-        Err(fault) => (fault.number(), fault.layer.number(), fault.spot),
-        Ok(()) => match line.vessel() {
+fn least_of(file: &[u8], row: &mut [u32], next: &mut [u32], budget: u64) -> Told {
+    match FileLine::try_from(file) {
+        Err(fault) => refused(fault),
+        Ok(line) => match line.vessel() {
             AnyVessel::OfLip(vessel) => least_on(&line, &vessel, row, next, budget),
             AnyVessel::OfDrawn(vessel) => least_on(&line, &vessel, row, next, budget),
             AnyVessel::OfClosed(_) => (99, 0, 0),
@@ -43,27 +40,27 @@ fn least_fills_of_p_and_q(rt: HostRuntime) -> Result<(), Fail> {
     let mut row = [7u32; 3];
     let mut next = [8u32; 3];
     assert_eq!(rt;
-        least_of(&line_p(heap, 0, 6, 0)?, &mut row, &mut next, 14),
+        least_of(&line_p(heap, Kind::Lip, 6, 0)?, &mut row, &mut next, 14),
         (0, 0, 1)
     );
     assert!(rt; row == [0, 5, 7] && next == [0, 5, 8]);
     assert_eq!(rt;
-        least_of(&line_p(heap, 0, 5, 0)?, &mut row, &mut next, 12),
+        least_of(&line_p(heap, Kind::Lip, 5, 0)?, &mut row, &mut next, 12),
         (0, 0, 1)
     );
     assert!(rt; row == [0, 5, 7] && next == [0, 5, 8]);
     assert_eq!(rt;
-        least_of(&line_p(heap, 0, 4, 0)?, &mut row, &mut next, 10),
+        least_of(&line_p(heap, Kind::Lip, 4, 0)?, &mut row, &mut next, 10),
         (0, 0, 2)
     );
     assert!(rt; row == [NEVER, NEVER, 7] && next == [NEVER, NEVER, 8]);
     assert_eq!(rt;
-        least_of(&line_p(heap, 2, 6, 1)?, &mut row, &mut next, 14),
+        least_of(&line_p(heap, Kind::Drawn, 6, 1)?, &mut row, &mut next, 14),
         (0, 0, 3)
     );
     assert!(rt; row == [NEVER, NEVER, 7] && next == [NEVER, NEVER, 8]);
     assert_eq!(rt;
-        least_of(&line_q(heap, 0, 10)?, &mut row, &mut next, 22),
+        least_of(&line_q(heap, Kind::Lip, 10)?, &mut row, &mut next, 22),
         (0, 0, 1)
     );
     assert!(rt; row == [0, 2, 7] && next == [0, 2, 8]);
@@ -73,7 +70,7 @@ fn least_fills_of_p_and_q(rt: HostRuntime) -> Result<(), Fail> {
 #[test]
 fn budgets_and_short_rows(rt: HostRuntime) -> Result<(), Fail> {
     let heap = rt.alloc();
-    let file = line_p(heap, 2, 6, 1)?;
+    let file = line_p(heap, Kind::Drawn, 6, 1)?;
     let mut row = [7u32; 2];
     let mut next = [8u32; 2];
     // one short of the rounds: row 2 and row 3 stay in the buffers
@@ -90,21 +87,19 @@ fn budgets_and_short_rows(rt: HostRuntime) -> Result<(), Fail> {
 }
 
 // What `plan` answers on a file with a lip.
-fn plan_of(file: &[u8], row: &[u32], place: u32) -> (u8, u8, u64) {
-    let mut line = FileLine::built_in();
-    match line.read(file) {
-        Err(fault) => (fault.number(), fault.layer.number(), fault.spot),
-        Ok(()) => match line.vessel() {
+fn plan_of(file: &[u8], row: &[u32], place: u32) -> Told {
+    match FileLine::try_from(file) {
+        Err(fault) => refused(fault),
+        Ok(line) => match line.vessel() {
             AnyVessel::OfLip(vessel) => told(plan(&line, &vessel, row, place)),
-            AnyVessel::OfDrawn(_) => (99, 0, 0),
-            AnyVessel::OfClosed(_) => (99, 0, 0),
+            _ => (99, 0, 0),
         },
     }
 }
 
 #[test]
 fn plans_and_their_refusals(rt: HostRuntime) -> Result<(), Fail> {
-    let file = line_q(rt.alloc(), 0, 10)?;
+    let file = line_q(rt.alloc(), Kind::Lip, 10)?;
     assert_eq!(rt; plan_of(&file, &[0, 2], 0), (0, 0, 1));
     assert_eq!(rt; plan_of(&file, &[5, 2], 0), (0, 0, 0));
     assert_eq!(rt; plan_of(&file, &[0], 2), (18, 4, 2));
@@ -130,28 +125,24 @@ fn the_gauge(rt: HostRuntime) {
 
 // The least good fill of a place of a closed line and the move ordered there.
 fn closed_row(file: &[u8], place: u32) -> (Option<u32>, Option<u32>) {
-    let mut line = FileLine::built_in();
+    let Ok(line) = FileLine::try_from(file) else {
+        return (None, None);
+    };
+    let AnyVessel::OfClosed(vessel) = line.vessel() else {
+        return (None, None);
+    };
     let mut marks = [0u32; 32];
-    match line.read(file) {
-        Err(_) => (None, None),
-        Ok(()) => match line.vessel() {
-            AnyVessel::OfClosed(vessel) => {
-                let _rounds = mark(&line, &vessel, &mut marks);
-                let fill = least_marked_good(&marks, 6, place);
-                (
-                    fill,
-                    ordered_move(&line, &vessel, &marks, place, fill.unwrap_or(0)),
-                )
-            }
-            AnyVessel::OfLip(_) => (None, None),
-            AnyVessel::OfDrawn(_) => (None, None),
-        },
-    }
+    let _rounds = mark(&line, &vessel, &mut marks);
+    let fill = least_marked_good(&marks, 6, place);
+    (
+        fill,
+        ordered_move(&line, &vessel, &marks, place, fill.unwrap_or(0)),
+    )
 }
 
 #[test]
 fn rows_of_a_closed_line(rt: HostRuntime) -> Result<(), Fail> {
-    let file = line_p(rt.alloc(), 1, 6, 0)?;
+    let file = line_p(rt.alloc(), Kind::Closed, 6, 0)?;
     assert_eq!(rt; closed_row(&file, 0), (Some(0), Some(0)));
     assert_eq!(rt; closed_row(&file, 1), (Some(5), Some(0)));
     assert_eq!(rt; closed_row(&file, 2), (None, None));
@@ -184,26 +175,31 @@ fn rows_as_they_are_printed(rt: HostRuntime) -> Result<(), Fail> {
 
 // Whether the row of a file's line is this text.
 fn line_reads(rt: &HostRuntime, file: &[u8], text: &str) -> Result<bool, Fail> {
-    let mut line = FileLine::built_in();
-    line.read(file)?;
+    let line = FileLine::try_from(file)?;
     Ok(format!(in rt.alloc(); "{line}")?.as_str() == text)
 }
 
 #[test]
 fn headers_of_the_three_kinds(rt: HostRuntime) -> Result<(), Fail> {
     let heap = rt.alloc();
-    assert!(rt; line_reads(&rt, &line_p(heap, 0, 6, 0)?, "line 2 places 2 moves lip 6")?);
     assert!(rt;
         line_reads(
             &rt,
-            &line_p(heap, 1, 6, 0)?,
+            &line_p(heap, Kind::Lip, 6, 0)?,
+            "line 2 places 2 moves lip 6"
+        )?
+    );
+    assert!(rt;
+        line_reads(
+            &rt,
+            &line_p(heap, Kind::Closed, 6, 0)?,
             "line 2 places 2 moves closed 6",
         )?
     );
     assert!(rt;
         line_reads(
             &rt,
-            &line_p(heap, 2, 6, 1)?,
+            &line_p(heap, Kind::Drawn, 6, 1)?,
             "line 2 places 2 moves drawn 6 1",
         )?
     );
@@ -211,7 +207,7 @@ fn headers_of_the_three_kinds(rt: HostRuntime) -> Result<(), Fail> {
 }
 
 // What marking a closed line answers with the marks of a sheet.
-fn sheet_marks(rt: &HostRuntime, file: &[u8]) -> Result<(u8, u8, u64), Fail> {
+fn sheet_marks(rt: &HostRuntime, file: &[u8]) -> Result<Told, Fail> {
     let mut marks = vec![in rt.alloc(); 0u32; 8_192]?;
     Ok(mark_file(file, &mut marks))
 }
@@ -219,13 +215,16 @@ fn sheet_marks(rt: &HostRuntime, file: &[u8]) -> Result<(u8, u8, u64), Fail> {
 #[test]
 fn closed_lines_that_fit_a_sheet(rt: HostRuntime) -> Result<(), Fail> {
     let heap = rt.alloc();
-    assert_eq!(rt; sheet_marks(&rt, &line_p(heap, 1, 4_094, 0)?)?, (0, 0, 1));
     assert_eq!(rt;
-        sheet_marks(&rt, &line_p(heap, 1, 4_095, 0)?)?,
+        sheet_marks(&rt, &line_p(heap, Kind::Closed, 4_094, 0)?)?,
+        (0, 0, 1)
+    );
+    assert_eq!(rt;
+        sheet_marks(&rt, &line_p(heap, Kind::Closed, 4_095, 0)?)?,
         (17, 4, 8_193)
     );
     assert_eq!(rt;
-        sheet_marks(&rt, &line_p(heap, 1, 32_768, 0)?)?,
+        sheet_marks(&rt, &line_p(heap, Kind::Closed, 32_768, 0)?)?,
         (16, 4, 32_768)
     );
     Ok(())

@@ -3,6 +3,7 @@ ghost use Rattle.std.specs.Prelude.{◌≡◌, true};
 ghost use Rattle.shift.specs.Checks.{names};
 
 use crate::bought::Leak;
+use crate::lines::{ACCEPTED, Told, refused, told_whether};
 use hopper::{Board, Closed, Fault, Lip, Vessel};
 use linefile::FileLine;
 use shift::{Order, Returned, Shift, StillOpen};
@@ -20,15 +21,6 @@ const PIT: [u8; 32] =
 // Marks for two places and a top of 10 that call every fill good.
 const ALL_GOOD: [u32; 23] = [NEVER; 23];
 
-// What a call answers: zeros, or number, layer and spot of its fault.
-type Told = (u8, u8, u64);
-
-const ACCEPTED: Told = (0, 0, 0);
-
-fn told(fault: Fault) -> Told {
-    (fault.number(), fault.layer.number(), fault.spot)
-}
-
 // A shift and its open order.
 struct Held {
     shift: Shift,
@@ -36,6 +28,7 @@ struct Held {
     ghost open: { names shift order shift.opened ≡ true },
 }
 
+// kept as it is: no plainer, the tests show one shift boards, vessels and marks that do not go together.
 // Orders on a shift.
 fn ordered<B: Board, V: Vessel>(
     mut shift: Shift,
@@ -43,10 +36,8 @@ fn ordered<B: Board, V: Vessel>(
     vessel: &V,
     marks: &[u32],
 ) -> Result<Held, Fault> {
-    match shift.order(board, vessel, marks) {
-        Ok(order) => Ok(Held { shift, order }),
-        Err(fault) => Err(fault),
-    }
+    let order = shift.order(board, vessel, marks)?;
+    Ok(Held { shift, order })
 }
 
 // Opens a shift and orders.
@@ -58,20 +49,17 @@ fn opened_and_ordered<B: Board, V: Vessel>(
     place: u32,
     fill: u32,
 ) -> Result<Held, Fault> {
-    match Shift::open(number, board, vessel, marks, place, fill) {
-        Ok(shift) => ordered(shift, board, vessel, marks),
-        Err(fault) => Err(fault),
-    }
+    let shift = Shift::open(number, board, vessel, marks, place, fill)?;
+    ordered(shift, board, vessel, marks)
 }
 
 impl Held {
+    // kept as it is: no plainer, the log of shifts has a pair of its own, and a program is no library.
     // Takes the order back. It is the open one, so it cannot be refused.
     fn withdraw(self) -> Shift {
         let Held { mut shift, order } = self;
-        match shift.withdrawn(order) {
-            Ok(()) => shift,
-            Err(_returned) => unreachable(),
-        }
+        shift.withdrawn(order).unwrap();
+        shift
     }
 
     // The move that was ordered; then the order is withdrawn.
@@ -88,7 +76,7 @@ impl Held {
             Ok(()) => ACCEPTED,
             Err(Returned { fault, order }) => {
                 let back = Held { shift, order }.withdraw();
-                return (told(fault), back.place(), back.level());
+                return (refused(fault), back.place(), back.level());
             }
         };
         (said, shift.place(), shift.level())
@@ -101,7 +89,7 @@ impl Held {
             Ok(()) => ACCEPTED,
             Err(Returned { fault, order }) => {
                 let _back = Held { shift, order }.withdraw();
-                told(fault)
+                refused(fault)
             }
         }
     }
@@ -113,7 +101,7 @@ impl Held {
             Ok(()) => ACCEPTED,
             Err(Returned { fault, order }) => {
                 let _back = Held { shift, order }.withdraw();
-                told(fault)
+                refused(fault)
             }
         }
     }
@@ -121,45 +109,32 @@ impl Held {
     // Orders once more, while the order is open.
     fn order_more<B: Board, V: Vessel>(self, board: &B, vessel: &V, marks: &[u32]) -> Told {
         let Held { mut shift, order } = self;
-        match shift.order(board, vessel, marks) {
-            Ok(_second) => unreachable(),
-            Err(fault) => {
-                let _back = Held { shift, order }.withdraw();
-                told(fault)
-            }
-        }
+        let fault = shift.order(board, vessel, marks).unwrap_err();
+        let _back = Held { shift, order }.withdraw();
+        refused(fault)
     }
 
+    // kept as it is: no plainer, beside `order_more` the call is another and the rest three lines.
     // Reports a move of the other side, while the order is open.
     fn arrived<B: Board, V: Vessel>(self, board: &B, vessel: &V, mv: u32) -> Told {
         let Held { mut shift, order } = self;
-        match shift.arrived(board, vessel, mv) {
-            Ok(()) => unreachable(),
-            Err(fault) => {
-                let _back = Held { shift, order }.withdraw();
-                told(fault)
-            }
-        }
+        let fault = shift.arrived(board, vessel, mv).unwrap_err();
+        let _back = Held { shift, order }.withdraw();
+        refused(fault)
     }
 
     // Closes the shift, while the order is open.
     fn close(self) -> Told {
         let Held { shift, order } = self;
-        match shift.close() {
-            Ok(_) => unreachable(),
-            Err(StillOpen { fault, shift }) => {
-                let _back = Held { shift, order }.withdraw();
-                told(fault)
-            }
-        }
+        let StillOpen { fault, shift } = shift.close().unwrap_err();
+        let _back = Held { shift, order }.withdraw();
+        refused(fault)
     }
 }
 
-// The line of a file.
+// The line of a file, or the built-in one where it is refused.
 fn line<'a>(file: &'a [u8]) -> FileLine<'a> {
-    let mut line = FileLine::built_in();
-    let _read = line.read(file);
-    line
+    FileLine::try_from(file).unwrap_or(FileLine::built_in())
 }
 
 // Opens a shift.
@@ -170,10 +145,7 @@ fn open_told<B: Board, V: Vessel>(
     place: u32,
     fill: u32,
 ) -> Told {
-    match Shift::open(7, board, vessel, marks, place, fill) {
-        Ok(_shift) => ACCEPTED,
-        Err(fault) => told(fault),
-    }
+    told_whether(Shift::open(7, board, vessel, marks, place, fill))
 }
 
 // Orders on a shift, and withdraws: the move, and what was told.
@@ -185,7 +157,7 @@ fn order_told<B: Board, V: Vessel>(
 ) -> (Told, u32) {
     match ordered(shift, board, vessel, marks) {
         Ok(held) => (ACCEPTED, held.mv()),
-        Err(fault) => (told(fault), 0),
+        Err(fault) => (refused(fault), 0),
     }
 }
 
@@ -196,10 +168,7 @@ fn arrived_told<B: Board, V: Vessel>(
     vessel: &V,
     mv: u32,
 ) -> (Told, u32, u32) {
-    let said = match shift.arrived(board, vessel, mv) {
-        Ok(()) => ACCEPTED,
-        Err(fault) => told(fault),
-    };
+    let said = told_whether(shift.arrived(board, vessel, mv));
     (said, shift.place(), shift.level())
 }
 

@@ -14,13 +14,13 @@ use Rattle.linecheck.proofs.write_again.Goals as goal
 
 pub slice_bounds-tables-end : goal.slice_bounds-tables-end
 slice_bounds-tables-end c =
-    let f = tables_fit (held c.args.line.now) (length c.args.places.now) (length c.args.moves.now) (ap is_ok (sym c.in-Ok.ensures.answer)) in
+    let f = tables_fit (held c.args.line.now) (length c.args.places.now) (length c.args.moves.now) (ap is_ok (sym c.in_ok-unpack.ensures.answer)) in
     let n = c.places-n.ensures in
     search rules
 
-pub slice_bounds-tables-end-in-Ok : goal.slice_bounds-tables-end-in-Ok
-slice_bounds-tables-end-in-Ok c =
-    let f = tables_fit (held c.args.line.now) (length c.args.places.now) (length c.args.moves.now) (ap is_ok (sym c.in-Ok.ensures.answer)) in
+pub slice_bounds-tables-end-2 : goal.slice_bounds-tables-end-2
+slice_bounds-tables-end-2 c =
+    let f = tables_fit (held c.args.line.now) (length c.args.places.now) (length c.args.moves.now) (ap is_ok (sym c.in_ok-unpack.ensures.answer)) in
     let m = c.moves-m.ensures in
     search rules
 
@@ -40,11 +40,11 @@ rewritten file out out' l (Ok n) e a w =
     (s ∙ ap length e, w ∙ ap (λ x. encode l ++ drop x out) (sym s) ∙ ap (λ x. x ++ drop n out) e)
 rewritten file out out' l (Err f) e a w = w
 
-pub returns-in-Ok : goal.returns-in-Ok
-returns-in-Ok c =
+pub returns : goal.returns
+returns c =
     let l = held c.args.line.now in
     let ps = c.unpack.new.places in
     let ms = c.unpack.new.moves in
     let m : Line = record { places = take (c.places-n.result - 0) ps; moves = take (c.moves-m.result - 0) ms; names = c.names.result.now; kind = c.number.result; top = c.top.result; draw = c.draw.result } in
     let s : m ≡ retabled l ps ms = same_tables l m c.places-n.result c.moves-m.result c.places-n.ensures c.moves-m.ensures ps ms refl refl c.names.ensures (c.number.ensures ∙ c.kind.ensures) c.top.ensures c.draw.ensures in
-    rewritten (file_of c.args.line.now) c.args.out.now c.write.new.out m c.write.result (ap encode s ∙ (c.in-Ok.ensures.again refl).1) c.write.ensures.answer c.write.ensures.written
+    rewritten (file_of c.args.line.now) c.args.out.now c.write.new.out m c.write.result (ap encode s ∙ (c.in_ok-unpack.ensures.again refl).1) c.write.ensures.answer c.write.ensures.written

@@ -9,13 +9,12 @@ use Rattle.lookahead.proofs.Far.{far_holds}
 use Rattle.lookahead.proofs.Turns.{formed}
 use Rattle.lookahead.proofs.Outlook.is_far_from_edges.Goals as goal
 
-pub returns-then-reach-level : goal.returns-then-reach-level
-returns-then-reach-level c = λ e.
+pub returns-then-reach-question : goal.returns-then-reach-question
+returns-then-reach-question c = λ e.
     let o = c.args.self.now in
-    let k = c.args.moves in
-    let d = c.args.level in
-    let top = c.in-OfClosed.closed.top in
-    let below = leb-true d c.saturating_sub.result e in
-    let low : k * most_amount ≤ d = omega (arith, c.if-reach-level.true, c.from.ensures) in
-    let high : d + k * most_amount ≤ top = omega (arith, below, c.saturating_sub.ensures, c.top.ensures, c.from.ensures, c.if-reach-level.true) in
-    subst (λ (v : AnyVessel). Holds (game_in o) (any_table v) k c.args.place d) (sym c.in-OfClosed.is) (far_holds (game_in o) (formed o) top k c.args.place d c.requires low high)
+    let q = c.args.question in
+    let top = c.in-OfClosed.closed.top.litres in
+    let below = leb-true q.level c.saturating_sub.result e in
+    let low : q.moves * most_amount ≤ q.level = omega (arith, c.if-reach-question.true, c.from.ensures) in
+    let high : q.level + q.moves * most_amount ≤ top = omega (arith, below, c.saturating_sub.ensures, c.top.ensures, c.from.ensures, c.if-reach-question.true) in
+    subst (λ (v : AnyVessel). Holds (game_in o) (any_table v) q.moves q.place q.level) (sym c.in-OfClosed.is) (far_holds (game_in o) (formed o) top q.moves q.place q.level c.requires.place low high)

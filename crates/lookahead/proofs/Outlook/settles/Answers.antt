@@ -1,23 +1,11 @@
 -- What is left to show of `settles`.
-use Rattle.std.proofs.Common.{ℕ, Decides, subst}
-use Rattle.lookahead.specs.Remembering.{HoldsIn}
 use Rattle.lookahead.proofs.Turns.{settles_held, settles_beaten}
 use Rattle.lookahead.proofs.Outlook.settles.Goals as goal
 
-pub returns-then-moves-known : goal.returns-then-moves-known
-returns-then-moves-known c = λ e.
-    let o = c.args.self.now in
-    let a = c.args.known in
-    let k = c.args.moves in
-    let d = c.args.level in
-    subst (λ (p : ℕ). Decides a.held (HoldsIn o k p d)) c.if-known-place.false
-    (settles_held o a k d c.requires.0 c.if-known.true c.if-moves-known.true c.requires.1 (c.holds_higher.ensures e))
+pub returns-then-question-known : goal.returns-then-question-known
+returns-then-question-known c = λ e.
+    settles_held c.args.self.now c.args.known c.args.question c.if-known-question.false c.if-known.true c.if-question-known.true c.requires (c.holds_higher.ensures e)
 
-pub returns-then-known-moves : goal.returns-then-known-moves
-returns-then-known-moves c = λ e.
-    let o = c.args.self.now in
-    let a = c.args.known in
-    let k = c.args.moves in
-    let d = c.args.level in
-    subst (λ (p : ℕ). Decides a.held (HoldsIn o k p d)) c.if-known-place.false
-    (settles_beaten o a k d c.requires.0 c.if-known.false c.if-known-moves.true (c.holds_higher-then-known-moves.ensures e))
+pub returns-then-known-question-2 : goal.returns-then-known-question-2
+returns-then-known-question-2 c = λ e.
+    settles_beaten c.args.self.now c.args.known c.args.question c.if-known-question.false c.if-known.false c.if-known-question-2.true (c.holds_higher-then-known-question-2.ensures e)

@@ -19,7 +19,7 @@ returns g c =
     let old = c.args.marks.now in
     let new = c.forced.new.marks in
     let r = c.forced.result in
-    let answered : ForcedAnswers (unfolded game top t) (spill game top) old new r = rw (c.places.ensures, c.top-top.ensures) at c.forced.ensures in
+    let answered : ForcedAnswers (unfolded game top t) (spill game top) old new r = rw c.fills-count.ensures at c.forced.ensures in
     let small : spill game top ≤ most_fills = search rules in
     let answer : MarkAnswers game top t old new r = mark_answers game formed top t keeps small old new r answered in
     record {

@@ -11,6 +11,6 @@ pub returns : goal.returns
 returns c =
     let v = c.args.self.now in
     let f : SFits w32 c.args.amount = search rules in
-    let e : c.lifted.result ≡ need_drawn v.top v.draw c.args.wanted c.args.amount = simp to_z-of_z at c.lifted.ensures in
-    subst (λ (o : Option ℕ). IsNeed v.top (drawn v.top v.draw) c.args.wanted c.args.amount o) (sym e)
-    ((vessels_keep_rules v.top v.draw v.fits).drawn_graded c.args.wanted c.args.amount)
+    let e : c.lifted.result ≡ need_drawn v.top.litres v.draw c.args.wanted c.args.amount = simp to_z-of_z at c.lifted.ensures in
+    subst (λ (o : Option ℕ). IsNeed v.top.litres (drawn v.top.litres v.draw) c.args.wanted c.args.amount o) (sym e)
+    ((vessels_keep_rules v.top.litres v.draw v.top.fits).drawn_graded c.args.wanted c.args.amount)

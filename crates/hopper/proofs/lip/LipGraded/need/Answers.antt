@@ -10,6 +10,6 @@ pub returns : goal.returns
 returns c =
     let v = c.args.self.now in
     let f : SFits w32 c.args.amount = search rules in
-    let e : c.lifted.result ≡ need_lip v.top c.args.wanted c.args.amount = simp to_z-of_z at c.lifted.ensures in
-    subst (λ (o : Option ℕ). IsNeed v.top (lip v.top) c.args.wanted c.args.amount o) (sym e)
-    ((vessels_keep_rules v.top 0 v.fits).lip_graded c.args.wanted c.args.amount)
+    let e : c.lifted.result ≡ need_lip v.top.litres c.args.wanted c.args.amount = simp to_z-of_z at c.lifted.ensures in
+    subst (λ (o : Option ℕ). IsNeed v.top.litres (lip v.top.litres) c.args.wanted c.args.amount o) (sym e)
+    ((vessels_keep_rules v.top.litres 0 v.top.fits).lip_graded c.args.wanted c.args.amount)

@@ -1,8 +1,0 @@
--- Invariants and measures of `first_fault`.
-use Rattle.std.proofs.Common.{◌≡◌, drop}
-use Rattle.hopper.specs.Refusing.{verdict}
-use Rattle.hopper.proofs.first_fault.Given as goal
-
--- the checks so far have passed
-abbrev pub invariant-loop-check : goal.invariant-loop-check
-invariant-loop-check l = verdict l.checks ≡ verdict (drop l.check-index l.checks)

@@ -1,0 +1,2 @@
+-- The proofs of this crate that several functions cite.
+pub mod Answering

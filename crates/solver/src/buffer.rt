@@ -1,0 +1,100 @@
+// A buffer that tells of the places of a board.
+ghost use Rattle.std.specs.Prelude.{◌≡◌, ◌<◌, ◌≤◌, length};
+ghost use Rattle.game.specs.Forced.{ForcesInto};
+ghost use Rattle.game.specs.Fill.{Step};
+ghost use Rattle.hopper.specs.Boards.{owner_at, step_at, count_at};
+ghost use Rattle.solver.specs.Entries.{Tells};
+ghost use Rattle.solver.specs.Forcing.{MarkedBelow, LeadsTo};
+ghost use Rattle.solver.specs.Least.{Parts};
+ghost use Rattle.solver.specs.RowSteps.{Enough, NeededFor};
+
+use super::NEVER;
+use game::{Edge, Owner};
+use hopper::{Board, Graded};
+
+// A buffer with an entry for each place of the board: a mark, or the place's level in a row.
+#[derive(Drop)]
+pub(crate) struct Entries<'a, B: Board> {
+    pub(crate) board: &'a B,
+    pub(crate) entries: &'a [u32],
+    ghost long: { (B.Board.game board.now).places ≤ length entries.now },
+}
+
+impl<B: Board> Entries<'_, B> {
+    // Who chooses at the place.
+    // kept as it is: no plainer, a struct for a place that is there would be made anew for each place
+    fn owner(&self, place: u32) -> Owner
+        requires { place < (B.Board.game self.now.board.now).places }
+        ensures { owner_at ((B.Board.game self.now.board.now).at place) ≡ Some result }
+    {
+        self.board.owner(place).unwrap()
+    }
+
+    // How many moves the place has.
+    pub(crate) fn move_count(&self, place: u32) -> u32
+        requires { place < (B.Board.game self.now.board.now).places }
+        ensures { result ≡ count_at ((B.Board.game self.now.board.now).at place) }
+    {
+        self.board.moves(place).unwrap()
+    }
+
+    // Its move m.
+    // kept as it is: no plainer, a struct for a move that is there would be made anew for each move
+    fn move_at(&self, place: u32, m: u32) -> Edge
+        requires { m < count_at ((B.Board.game self.now.board.now).at place) }
+        ensures answered { step_at ((B.Board.game self.now.board.now).at place) m ≡ Some result }
+        ensures inside { result.target < (B.Board.game self.now.board.now).places }
+    {
+        self.board.step(place, m).unwrap()
+    }
+
+    // Whether its move m leads to an entry below the round.
+    fn leads_below(&self, place: u32, m: u32, round: u32) -> bool
+        requires { m < count_at ((B.Board.game self.now.board.now).at place) }
+        ensures { Tells result (LeadsTo (B.Board.game self.now.board.now) (MarkedBelow self.now.entries.now round) place m) }
+    {
+        self.entries[self.move_at(place, m).target as usize] < round
+    }
+
+    // Whether the other side can force one move from the place to an entry below the round.
+    pub(crate) fn can_force(&self, place: u32, round: u32) -> bool
+        requires { place < (B.Board.game self.now.board.now).places }
+        ensures { Tells result (ForcesInto (B.Board.game self.now.board.now) (MarkedBelow self.now.entries.now round) place) }
+    {
+        let below = |m: u32|
+            requires { m < count_at ((B.Board.game self.now.board.now).at place) }
+        { self.leads_below(place, m, round) };
+        let mut moves = 0..self.move_count(place);
+        match self.owner(place) {
+            Owner::Ours => moves.all(below),
+            Owner::Theirs => moves.any(below),
+        }
+    }
+
+    // The lowest level from which its move m leads to its target's entry or above, or never.
+    pub(crate) fn needed<V: Graded>(&self, vessel: &V, place: u32, m: u32) -> u32
+        requires { m < count_at ((B.Board.game self.now.board.now).at place) }
+        ensures { NeededFor (B.Board.game self.now.board.now) (V.Vessel.top vessel.now) (V.Vessel.table vessel.now) self.now.entries.now place m result }
+    {
+        let edge = self.move_at(place, m);
+        vessel
+            .need(self.entries[edge.target as usize], edge.amount)
+            .unwrap_or(NEVER)
+    }
+
+    // The lowest level from which a move of the place, whoever chooses it, leads to its target's entry or above, or never.
+    pub(crate) fn next_entry<V: Graded>(&self, vessel: &V, place: u32) -> u32
+        requires { place < (B.Board.game self.now.board.now).places }
+        ensures { Parts (V.Vessel.top vessel.now) (Step (B.Board.game self.now.board.now) (V.Vessel.table vessel.now) (Enough self.now.entries.now) place) result }
+    {
+        let levels = (0..self.move_count(place)).map(
+            |m|
+                requires { m < count_at ((B.Board.game self.now.board.now).at place) }
+            { self.needed(vessel, place, m) },
+        );
+        match self.owner(place) {
+            Owner::Ours => levels.min().unwrap(),
+            Owner::Theirs => levels.max().unwrap(),
+        }
+    }
+}
