@@ -60,7 +60,7 @@ fn print_place<'x>(
         name: name.text(),
     };
     println!(rt; "{row}")?;
-    // kept as it is: no plainer, two levels, and each is printed
+    // kept as it is: no plainer, at most two levels, and each is printed
     for level in litres.saturating_sub(1)..=litres {
         print_fill(rt, line, marks, place, level)?;
     }

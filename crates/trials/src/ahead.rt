@@ -8,12 +8,13 @@ use lookahead::look_ahead;
 use std::alloc::{AllocError, Global};
 use std::test::Fail;
 
-// What a look-ahead answers: 1 or 0 for true or false, or number, layer and spot of its fault.
+// Looks ahead on the line of a file.
 fn looked(heap: Global, file: &[u8], place: u32, fill: u32, k: u32) -> Result<bool, Fault> {
     let line = FileLine::try_from(file)?;
     look_ahead(heap, &line, place, fill, k)
 }
 
+// What a look-ahead answers: 1 or 0 for true or false, or number, layer and spot of its fault.
 fn look(heap: Global, file: &[u8], place: u32, fill: u32, k: u32) -> Told {
     told(looked(heap, file, place, fill, k))
 }
@@ -97,6 +98,7 @@ fn look_ahead_refuses_by_its_order(rt: HostRuntime) -> Result<(), Fail> {
 #[test]
 fn each_fill_holds_for_no_moves(rt: HostRuntime) -> Result<(), Fail> {
     let file = line_q(rt.alloc(), Kind::Closed, 5)?;
+    // kept as it is: no plainer, a question is put by the numbers of a place and of a fill
     for place in 0..2 {
         for fill in 0..6 {
             assert_eq!(rt; look(rt.alloc(), &file, place, fill, 0), (0, 0, 1));
