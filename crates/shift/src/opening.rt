@@ -22,6 +22,7 @@ fn check_open<B: Board, V: Vessel>(
 ) -> Result<(), Fault>
     ensures { result ≡ verdict (open_checks (B.Board.game board.now) (V.Vessel.top vessel.now) marks.now place fill) }
 {
+    // kept as it is: no plainer, each call says its checks in a table of its own, those that others have too.
     pass(&[
         check(
             fills(board, vessel) > MOST_FILLS,
