@@ -1,5 +1,5 @@
 -- What an outlook's answers tell of each other, and one turn of the question.
-use Rattle.std.proofs.Common.{◌≡◌, ℕ, suc, ◌+◌, ◌-◌, ◌<◌, ◌≤◌, Bool, true, false, not, List, length, get_or, Some, None, Decides, IfSome, Option, sym, refl, ap, ◌∙◌, subst, true≢false, arith}
+use Rattle.std.proofs.Common.{◌≡◌, ℕ, suc, ◌+◌, ◌-◌, ◌<◌, ◌≤◌, Bool, true, false, List, length, get_or, Some, None, Decides, IfSome, Option, sym, refl, ap, ◌∙◌, subst, true≢false, arith}
 use Rattle.std.proofs.lemmas.Bool.{false≢true}
 use Rattle.std.proofs.Math.Bool.{Bool-set, beq}
 use Rattle.std.proofs.Math.Logic.{∥∥₁_elim}
@@ -41,18 +41,12 @@ decides_yes b e p = (λ _. p, λ _. e)
 pub decides_no : {P : Type 0} (b : Bool) → b ≡ false → (P → ⊥) → Decides b P
 decides_no b e n = (λ t. absurd (true≢false (sym t ∙ e)), λ p. absurd (n p))
 
--- a test that is compared with another decides by that one, or by its opposite
+-- a test that is the same as another decides by that one
 pub decides_same : {P : Type 0} (r b : Bool) → beq r b ≡ true → Decides r P → Decides b P
 decides_same true true e d = d
 decides_same true false e d = absurd (false≢true e)
 decides_same false true e d = absurd (false≢true e)
 decides_same false false e d = d
-
-pub decides_other : {P : Type 0} (r b : Bool) → beq r b ≡ false → Decides r P → Decides (not b) P
-decides_other true true e d = absurd (true≢false e)
-decides_other true false e d = d
-decides_other false true e d = d
-decides_other false false e d = absurd (true≢false e)
 
 -- what all have that are there, has one that is read and is there
 pub some_at : {X : Type 0} (P : X → Type 0) (xs : List (Option X)) (i : ℕ) (x : X) → get_or xs i None ≡ Some x → All (λ o. IfSome o P) xs → P x
@@ -141,27 +135,27 @@ module _ (o : Outlook) (q : Question) (pos : 1 ≤ q.moves) where
       turn_in (w.0, w.1, subst (λ (y : Owner). Choice y w.0.moves Through) (sym w.2) (f w.0 w.1))
 
   -- a move that leads on is one that we can choose
-  some_leads : owner_at ((game_in o).at q.place) ≡ Some Ours → (m : ℕ) → LeadsOn o q m → Held o q
+  pub some_leads : owner_at ((game_in o).at q.place) ≡ Some Ours → (m : ℕ) → LeadsOn o q m → Held o q
   some_leads own m l = choose Ours own (λ r at.
       let s = step_place ((game_in o).at q.place) m l.0 l.1 in
       (m, l.0, subst (λ (x : Place). slice_get x.moves m ≡ Some l.0) (some_inj (sym s.1 ∙ at)) s.2, (l.2, l.3, l.4)))
 
   -- where we choose, a fill that holds has a move that leads on
-  some_out : owner_at ((game_in o).at q.place) ≡ Some Ours → Held o q → (m : ℕ) × LeadsOn o q m
+  pub some_out : owner_at ((game_in o).at q.place) ≡ Some Ours → Held o q → (m : ℕ) × LeadsOn o q m
   some_out own h =
       let s = chosen Ours own h in
       let x = s.2 in
       (x.0, (x.1, step_at_lem (game_in o) q.place x.0 s.0 x.1 s.1 x.2, x.3.0, x.3.1, x.3.2))
 
   -- where every move leads on, whatever they choose does
-  every_leads : owner_at ((game_in o).at q.place) ≡ Some Theirs → ((m : ℕ) → m < count_at ((game_in o).at q.place) → LeadsOn o q m) → Held o q
+  pub every_leads : owner_at ((game_in o).at q.place) ≡ Some Theirs → ((m : ℕ) → m < count_at ((game_in o).at q.place) → LeadsOn o q m) → Held o q
   every_leads own f = choose Theirs own (λ r at m e h.
       let is = step_at_lem (game_in o) q.place m r e at h in
       let l = f m (step_below ((game_in o).at q.place) m e is) in
       subst (λ (y : Edge). (d : ℕ) × (table_in o q.level y.amount ≡ Some d) × HoldsIn o (q.moves - 1) y.target d) (some_inj (sym l.1 ∙ is)) (l.2, l.3, l.4))
 
   -- where they choose, each move of a fill that holds leads on
-  every_out : owner_at ((game_in o).at q.place) ≡ Some Theirs → Held o q → (m : ℕ) → m < count_at ((game_in o).at q.place) → LeadsOn o q m
+  pub every_out : owner_at ((game_in o).at q.place) ≡ Some Theirs → Held o q → (m : ℕ) → m < count_at ((game_in o).at q.place) → LeadsOn o q m
   every_out own h m lt = by (step_at ((game_in o).at q.place) m) refl
     where
       s : (r : Place) × ((game_in o).at q.place ≡ Some r) × Choice Theirs r.moves Through
@@ -174,19 +168,11 @@ module _ (o : Outlook) (q : Question) (pos : 1 ≤ q.moves) where
           let x = s.2 m e (subst (λ (r : Place). slice_get r.moves m ≡ Some e) (some_inj (sym v.1 ∙ s.1)) v.2) in
           (e, is, x.0, x.1, x.2)
 
-  -- a move that leads on settles the question where we choose, one that does not where they do
+  -- where we choose a move that leads on settles the question, where they do one that does not
   pub one_settles : (own : Owner) → owner_at ((game_in o).at q.place) ≡ Some own → (m : ℕ) → m < count_at ((game_in o).at q.place)
       → Decides (is_ours own) (LeadsOn o q m) → Decides (is_ours own) (Held o q)
   one_settles Ours is m lt d = decides_yes true refl (some_leads is m (d.0 refl))
   one_settles Theirs is m lt d = decides_no false refl (λ h. false≢true (d.1 (every_out is h m lt)))
-
-  -- and where no move does, the question is settled the other way
-  pub none_settles : (own : Owner) → owner_at ((game_in o).at q.place) ≡ Some own
-      → ((m : ℕ) → m < count_at ((game_in o).at q.place) → Decides (not (is_ours own)) (LeadsOn o q m)) → Decides (not (is_ours own)) (Held o q)
-  none_settles Ours is all = decides_no false refl (λ h.
-      let w = some_out is h in
-      false≢true ((all w.0 (step_below ((game_in o).at q.place) w.0 w.1.0 w.1.1)).1 w.1))
-  none_settles Theirs is all = decides_yes true refl (every_leads is (λ m lt. (all m lt).0 refl))
 
 -- ---- what one move does
 -- a move that the vessel refuses does not lead on

@@ -1,6 +1,7 @@
-// The two questions of a look-ahead, put in turn with ever fewer moves.
+// The two questions of a look-ahead, one for places of ours and one for theirs, put in turn with ever fewer moves.
 ghost use Rattle.std.specs.Prelude.{◌≡◌, ◌<◌, ◌≤◌, ◌⊎◌, true, Some, IfSome, Decides, MatchOption};
 ghost use Rattle.std.specs.List.{All};
+ghost use Rattle.game.specs.declared.Owner.TheVariants.{Ours, Theirs};
 ghost use Rattle.hopper.specs.Boards.{owner_at, count_at};
 ghost use Rattle.lookahead.specs.Remembering.{game_in, OnBoard, Held};
 ghost use Rattle.lookahead.specs.Asking.{is_ours, Leads, Refused, SomeLeads, LeadsOn};
@@ -119,27 +120,44 @@ impl<'x> Memory<'x> {
         }
     }
 
-    // Puts the question of the place's owner: a move that leads on settles it where we choose, one that does not where they do.
+    // Whether some move of a place of ours leads to a fill that holds for one move fewer.
     #[cycle(asking)]
-    fn ask(&mut self, turn: Turn) -> bool
-        requires { OnBoard self.old.outlook turn.question }
+    fn some_move(&mut self, turn: Turn) -> bool
+        requires { owner_at ((game_in self.old.outlook).at turn.question.place) ≡ Some Ours }
         ensures answer { Decides result (Held self.old.outlook turn.question) }
         ensures same { self.new.outlook ≡ self.old.outlook }
     {
-        let place = turn.question.place;
-        let owner = Board::owner(self.outlook.line, place).unwrap();
-        let ours = is_ours(owner);
-        let count = self.outlook.count(place);
-        if self.is_settled_first(turn, owner) {
-            return ours;
+        let count = self.outlook.count(turn.question.place);
+        if self.is_settled_first(turn, Owner::Ours) {
+            return true;
         }
-        // kept as it is: no plainer, each move is asked about in the memory that the others wrote, and a closure would have to state that
+        // kept as it is: no plainer, each move is asked about in the memory that the others wrote, and a closure for `any` would have to state that
         for mv in 0..count {
-            if self.leads_on(turn, mv) == ours {
-                return ours;
+            if self.leads_on(turn, mv) {
+                return true;
             }
         }
-        !ours
+        false
+    }
+
+    // Whether every move of a place of theirs leads to a fill that holds for one move fewer.
+    #[cycle(asking)]
+    fn every_move(&mut self, turn: Turn) -> bool
+        requires { owner_at ((game_in self.old.outlook).at turn.question.place) ≡ Some Theirs }
+        ensures answer { Decides result (Held self.old.outlook turn.question) }
+        ensures same { self.new.outlook ≡ self.old.outlook }
+    {
+        let count = self.outlook.count(turn.question.place);
+        if self.is_settled_first(turn, Owner::Theirs) {
+            return false;
+        }
+        // kept as it is: no plainer, for `all` as for `any` above
+        for mv in 0..count {
+            if !self.leads_on(turn, mv) {
+                return false;
+            }
+        }
+        true
     }
 
     // Whether the question's fill holds: from what is remembered, or else asked and then remembered.
@@ -155,7 +173,11 @@ impl<'x> Memory<'x> {
         if let Some(held) = self.recall(question) {
             return held;
         }
-        let held = self.ask(Turn { question });
+        let turn = Turn { question };
+        let held = match Board::owner(self.outlook.line, question.place).unwrap() {
+            Owner::Ours => self.some_move(turn),
+            Owner::Theirs => self.every_move(turn),
+        };
         self.remember(question, held);
         held
     }

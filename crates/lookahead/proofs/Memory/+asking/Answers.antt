@@ -1,9 +1,11 @@
--- What is left to show of `ask`, `holds`, `is_settled_first` and `leads_on`, which call each other.
-use Rattle.std.proofs.Common.{Bool, not, Decides, sym, ◌∙◌, subst, arith, below_more}
+-- What is left to show of `every_move`, `holds`, `is_settled_first`, `leads_on` and `some_move`, which call each other.
+use Rattle.std.proofs.Common.{Bool, true, false, Decides, refl, ◌∙◌, subst, arith, below_more}
+use Rattle.std.proofs.lemmas.Bool.Decides.{not_from_Decides}
+use Rattle.hopper.proofs.Boards.{step_below}
 use Rattle.lookahead.specs.declared.Outlook.{Outlook}
 use Rattle.lookahead.specs.Asking.{SomeLeads, LeadsOn}
-use Rattle.lookahead.specs.Remembering.{Held}
-use Rattle.lookahead.proofs.Turns.{some_at, decides_same, decides_other, one_settles, none_settles, led_settles}
+use Rattle.lookahead.specs.Remembering.{game_in, Held}
+use Rattle.lookahead.proofs.Turns.{some_at, decides_yes, decides_no, decides_same, some_leads, some_out, every_leads, every_out, led_settles}
 use Rattle.lookahead.proofs.Memory.+asking.Goals as goal
 
 pub is_settled_first-returns-in-loop-first-clause-answer :
@@ -17,32 +19,47 @@ is_settled_first-returns-in-loop-first-clause-answer t c = λ _.
     let held = subst (λ (x : Outlook). Decides c.holds.result (Held x n)) c.loop-first.invariant c.holds.ensures.answer in
     led_settles o q c.args.turn.some_move c.args.owner c.requires n led (subst (λ (b : Bool). Decides b (Held o n)) c.is_ours.ensures (decides_same c.holds.result c.is_ours.result c.if-holds-is_ours.true held))
 
-pub ask-returns-then-leads_on-ours-clause-answer :
-    goal.ask-returns-then-leads_on-ours-clause-answer
-ask-returns-then-leads_on-ours-clause-answer t c =
+pub some_move-returns-then-leads_on-clause-answer : goal.some_move-returns-then-leads_on-clause-answer
+some_move-returns-then-leads_on-clause-answer t c =
     let o = c.args.self.now.outlook in
     let q = c.args.turn.question in
-    let own = sym c.owner.ensures ∙ c.unwrap-owner.ensures in
-    let m = c.loop-mv.mv in
-    let on = subst (λ (x : Outlook). Decides c.leads_on.result (LeadsOn x q m)) c.loop-mv.invariant.0 c.leads_on.ensures.answer in
-    let ours = c.is_ours-ours in
-    let settled = decides_same c.leads_on.result ours.result c.if-leads_on-ours.true on in
-    subst (λ (b : Bool). Decides b (Held o q)) (sym ours.ensures)
-    (one_settles o q c.args.turn.some_move c.unwrap-owner.result own m (omega (arith, c.loop-mv-test.true, c.count-count.ensures)) (subst (λ (b : Bool). Decides b (LeadsOn o q m)) ours.ensures settled))
+    let on = subst (λ (x : Outlook). Decides c.leads_on.result (LeadsOn x q c.loop-mv.mv)) c.loop-mv.invariant.0 c.leads_on.ensures.answer in
+    decides_yes true refl (some_leads o q c.args.turn.some_move c.requires c.loop-mv.mv (on.0 c.if-leads_on.true))
 
-pub ask-loop-mv-preserved : goal.ask-loop-mv-preserved
-ask-loop-mv-preserved t c =
+pub some_move-loop-mv-preserved : goal.some_move-loop-mv-preserved
+some_move-loop-mv-preserved t c =
     let q = c.args.turn.question in
-    let m = c.loop-mv.mv in
-    let on = subst (λ (x : Outlook). Decides c.leads_on.result (LeadsOn x q m)) c.loop-mv.invariant.0 c.leads_on.ensures.answer in
-    (c.leads_on.ensures.same ∙ c.loop-mv.invariant.0, below_more _ _ c.loop-mv.invariant.1 (decides_other c.leads_on.result c.is_ours-ours.result c.if-leads_on-ours.false on))
+    let on = subst (λ (x : Outlook). Decides c.leads_on.result (LeadsOn x q c.loop-mv.mv)) c.loop-mv.invariant.0 c.leads_on.ensures.answer in
+    (c.leads_on.ensures.same ∙ c.loop-mv.invariant.0, below_more _ _ c.loop-mv.invariant.1 (not_from_Decides c.leads_on.result on c.if-leads_on.false))
 
-pub ask-returns-clause-answer : goal.ask-returns-clause-answer
-ask-returns-clause-answer t c =
+pub some_move-returns-clause-answer : goal.some_move-returns-clause-answer
+some_move-returns-clause-answer t c =
     let o = c.args.self.now.outlook in
     let q = c.args.turn.question in
-    let own = sym c.owner.ensures ∙ c.unwrap-owner.ensures in
-    let ours = c.is_ours-ours in
-    subst (λ (b : Bool). Decides (not b) (Held o q)) (sym ours.ensures)
-    (none_settles o q c.args.turn.some_move c.unwrap-owner.result own (λ m lt.
-    subst (λ (b : Bool). Decides (not b) (LeadsOn o q m)) ours.ensures (c.loop-mv.invariant.1 m (omega (arith, lt, c.count-count.ensures, c.loop-mv-test.false)))))
+    decides_no false refl (λ h.
+    let w = some_out o q c.args.turn.some_move c.requires h in
+    let below = step_below ((game_in o).at q.place) w.0 w.1.0 w.1.1 in
+    c.loop-mv.invariant.1 w.0 (omega (arith, below, c.count-count.ensures, c.loop-mv-test.false)) w.1)
+
+pub every_move-returns-then-not-leads_on-clause-answer : goal.every_move-returns-then-not-leads_on-clause-answer
+every_move-returns-then-not-leads_on-clause-answer t c =
+    let o = c.args.self.now.outlook in
+    let q = c.args.turn.question in
+    let m = c.loop-mv.mv in
+    let on = subst (λ (x : Outlook). Decides c.leads_on.result (LeadsOn x q m)) c.loop-mv.invariant.0 c.leads_on.ensures.answer in
+    decides_no false refl (λ h.
+    not_from_Decides c.leads_on.result on c.if-not-leads_on.true
+    (every_out o q c.args.turn.some_move c.requires h m (omega (arith, c.loop-mv-test.true, c.count-count.ensures))))
+
+pub every_move-loop-mv-preserved : goal.every_move-loop-mv-preserved
+every_move-loop-mv-preserved t c =
+    let q = c.args.turn.question in
+    let on = subst (λ (x : Outlook). Decides c.leads_on.result (LeadsOn x q c.loop-mv.mv)) c.loop-mv.invariant.0 c.leads_on.ensures.answer in
+    (c.leads_on.ensures.same ∙ c.loop-mv.invariant.0, below_more _ _ c.loop-mv.invariant.1 (on.0 c.if-not-leads_on.false))
+
+pub every_move-returns-clause-answer : goal.every_move-returns-clause-answer
+every_move-returns-clause-answer t c =
+    let o = c.args.self.now.outlook in
+    let q = c.args.turn.question in
+    decides_yes true refl (every_leads o q c.args.turn.some_move c.requires
+    (λ m lt. c.loop-mv.invariant.1 m (omega (arith, lt, c.count-count.ensures, c.loop-mv-test.false))))
