@@ -136,21 +136,21 @@ fn run_calls(rt: &HostRuntime, bench: Bench) -> io::Result<()> {
     println!(rt; "{counts}")
 }
 
-// Marks the fills of the line, and runs the calls on them.
+// Marks the fills of the line, and runs the calls on them. Where there are too many fills to mark no shift opens, but looking ahead needs no marks.
 fn mark_and_run<'x>(rt: &HostRuntime, line: &'x FileLine, vessel: &'x AnyVessel) -> io::Result<()> {
     let mut marks = vec![in rt.alloc(); 0u32; marks_needed(line, vessel)]?;
     match mark(line, vessel, &mut marks) {
-        Err(fault) => println!(rt; "{fault}"),
-        Ok(rounds) => {
-            println!(rt; "{line} rounds {rounds}")?;
-            let bench = Bench {
-                line,
-                vessel,
-                marks: &marks,
-            };
-            run_calls(rt, bench)
-        }
+        Err(fault) => println!(rt; "{line} {fault}")?,
+        Ok(rounds) => println!(rt; "{line} rounds {rounds}")?,
     }
+    run_calls(
+        rt,
+        Bench {
+            line,
+            vessel,
+            marks: &marks,
+        },
+    )
 }
 
 fn main(rt: HostRuntime) -> io::Result<()> {
