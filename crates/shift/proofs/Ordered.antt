@@ -1,20 +1,27 @@
 -- The table of an order: the checks before the search for a good move, and the one that the search decides.
-use Rattle.std.proofs.Common.{◌≡◌, ℕ, ◌<◌, ◌≤◌, Bool, true, false, not, List, [], ◌∷◌, Some, None, Option, Ok, sym, refl, ap, ◌∙◌, arith}
-use Rattle.std.proofs.lemmas.Bool.{false≢true}
-use Rattle.std.specs.Option.{MatchOption, ok_or, unwrap_or}
+use Rattle.std.proofs.Common.{◌≡◌, ℕ, ◌<◌, Bool, not, List, [], ◌∷◌, Some, Ok, sym, ap, ◌∙◌, arith}
 use Rattle.game.specs.declared.Edge.{Edge}
-use Rattle.game.specs.Game.{Game}
+use Rattle.game.specs.Game.{Game, WellFormed}
+use Rattle.game.specs.Limits.{most_moves}
 use Rattle.game.specs.Vessel.{Table}
-use Rattle.hopper.specs.Faults.{Check, check, fault}
+use Rattle.game.proofs.Force.{sound_at}
 use Rattle.hopper.specs.declared.Layer.TheVariants.{Rest}
 use Rattle.hopper.specs.declared.Refusal.TheVariants.{NoGoodMove}
-use Rattle.hopper.specs.Boards.{moves_at, step_at}
-use Rattle.hopper.specs.Refusing.{verdict, Answers}
+use Rattle.hopper.specs.Boards.{step_at}
+use Rattle.hopper.specs.Faults.{Check, check}
+use Rattle.hopper.specs.Refusing.{verdict}
+use Rattle.hopper.proofs.Boards.{nth_below, step_place}
 use Rattle.hopper.proofs.Refusing.{second_decides}
 use Rattle.shift.specs.declared.Shift.{Shift}
-use Rattle.shift.specs.Good.{pours_good, is_good_step, has_good_move, FirstGoodMove}
+use Rattle.shift.specs.Good.{has_good_move}
 use Rattle.shift.specs.Checks.{order_still_open, not_on_board, marks_too_short, place_is_theirs, no_good_move, order_checks}
-use Rattle.shift.proofs.Search.{Passed, moves_counted, some_found, none_found}
+
+-- a move has a small number
+pub few : (g : Game) → WellFormed g → (p m : ℕ) (e : Edge) → step_at (g.at p) m ≡ Some e → m < most_moves
+few g wf p m e is =
+    let w = step_place (g.at p) m e is in
+    let below = nth_below w.0.moves m e w.2 in
+    let most = (sound_at g wf p w.0 w.1).few_moves in omega arith
 
 module _ (g : Game) (top : ℕ) (t : Table) (marks : List ℕ) (s : Shift) where
   -- the checks before the search
@@ -28,24 +35,3 @@ module _ (g : Game) (top : ℕ) (t : Table) (marks : List ℕ) (s : Shift) where
     decided b is =
         sym (second_decides asked (no_good_move g top t marks s ∷ []) tt u passed)
         ∙ ap (λ (x : Bool). verdict (check (not x) NoGoodMove Rest s.place ∷ [])) is
-
-    -- what a search through the moves tells of their first good one
-    none_before : (a n : ℕ) → a ≡ 0 → ((k : ℕ) → a ≤ k → k < n → is_good_step top t marks s.level (step_at (g.at s.place) k) ≡ false) → Passed (pours_good top t marks s.level) (g.at s.place) n
-    none_before a n start fails k lt e is = ap (is_good_step top t marks s.level) (sym is) ∙ fails k (omega arith) lt
-
-    good_step : (o : Option Edge) → is_good_step top t marks s.level o ≡ true → (e : Edge) × (o ≡ Some e) × (pours_good top t marks s.level e ≡ true)
-    good_step None is = absurd (false≢true is)
-    good_step (Some e) is = (e, refl, is)
-
-    pub searched : (a n : ℕ) (o : Option ℕ) → a ≡ 0 → n ≡ unwrap_or (moves_at (g.at s.place)) 0
-        → MatchOption o ((k : ℕ) → a ≤ k → k < n → is_good_step top t marks s.level (step_at (g.at s.place) k) ≡ false)
-        (λ m. (a ≤ m) × (m < n) × (is_good_step top t marks s.level (step_at (g.at s.place) m) ≡ true)
-        × ((k : ℕ) → a ≤ k → k < m → is_good_step top t marks s.level (step_at (g.at s.place) k) ≡ false))
-        → Answers (order_checks g top t marks s) (FirstGoodMove top t marks s.level (g.at s.place)) (Unit {0}) (ok_or o (fault NoGoodMove Rest s.place))
-    searched a n None start all fails =
-        (decided false (none_found (pours_good top t marks s.level) (g.at s.place) n (none_before a n start fails) (omega (arith, moves_counted (g.at s.place)))), tt)
-    searched a n (Some m) start all one =
-        let w = good_step (step_at (g.at s.place) m) one.2 in (
-          decided true (some_found (pours_good top t marks s.level) (g.at s.place) m w.0 w.1 w.2),
-          record { move = w.0; is_move = w.1; good = w.2; first = none_before a m start one.3 },
-        )

@@ -1,13 +1,12 @@
 -- The search for the first good move, and what it finds.
-use Rattle.std.proofs.Common.{◌≡◌, ℕ, zero, suc, ◌<◌, ◌≤◌, Bool, true, false, not, ◌||◌, List, [], ◌∷◌, length, is_some, Some, None, Option, sym, refl, ◌∙◌, subst, arith}
+use Rattle.std.proofs.Common.{◌≡◌, ℕ, zero, suc, ◌+◌, ◌<◌, ◌≤◌, Bool, true, false, not, ◌||◌, List, [], ◌∷◌, length, is_some, Some, None, Option, sym, refl, ◌∙◌, subst, inl, inr, arith, below_more}
 use Rattle.std.specs.List.{slice_get}
-use Rattle.std.specs.Option.{unwrap_or}
-use Rattle.std.proofs.lemmas.Bool.{true≢false, false≢true, or_parts, or_from, or_left, or_right}
+use Rattle.std.proofs.lemmas.Bool.{true≢false, false≢true, cases_lt, or_parts, or_from, or_left, or_right}
 use Rattle.game.specs.declared.Edge.{Edge}
 use Rattle.game.specs.Game.{Place}
 use Rattle.game.proofs.Base.{none_some, some_inj}
-use Rattle.hopper.specs.Boards.{moves_at, step_at}
-use Rattle.hopper.proofs.Boards.{nth_below}
+use Rattle.hopper.specs.Boards.{step_at}
+use Rattle.hopper.proofs.Boards.{nth_below, nth_there}
 use Rattle.shift.specs.Good.{any_move, moves_of}
 
 -- a test whether nothing is there
@@ -23,11 +22,6 @@ some_there (Some x) is = (x, refl)
 pub step_is : (at : Option Place) (m : ℕ) → step_at at m ≡ slice_get (moves_of at) m
 step_is None m = refl
 step_is (Some q) m = refl
-
--- how many moves are answered
-pub moves_counted : (at : Option Place) → unwrap_or (moves_at at) 0 ≡ length (moves_of at)
-moves_counted None = refl
-moves_counted (Some q) = refl
 
 module _ (test : Edge → Bool) where
   -- where no move passes, each of them fails
@@ -68,9 +62,20 @@ module _ (test : Edge → Bool) where
     abbrev pub Passed : ℕ → Type 0
     Passed m = (k : ℕ) → k < m → (e : Edge) → step_at at k ≡ Some e → test e ≡ false
 
+    pub passed_more : (m : ℕ) → Passed m → (e : Edge) → step_at at m ≡ Some e → test e ≡ false → Passed (m + 1)
+    passed_more m passed e is fails =
+        below_more (λ (k : ℕ). (y : Edge) → step_at at k ≡ Some y → test y ≡ false) m passed
+        (λ y here. subst (λ (z : Edge). test z ≡ false) (some_inj (sym is ∙ here)) fails)
+
     pub some_found : (m : ℕ) (e : Edge) → step_at at m ≡ Some e → test e ≡ true → any_move test (moves_of at) ≡ true
     some_found m e is good = one_passes (moves_of at) m e (sym (step_is at m) ∙ is) good
 
-    pub none_found : (n : ℕ) → Passed n → length (moves_of at) ≤ n → any_move test (moves_of at) ≡ false
-    none_found n passed all =
-        none_passes (moves_of at) (λ k e is. passed k (let lt = nth_below (moves_of at) k e is in omega arith) e (step_is at k ∙ is))
+    pub none_found : (m : ℕ) → Passed m → step_at at m ≡ None → any_move test (moves_of at) ≡ false
+    none_found m passed none =
+        none_passes (moves_of at) (λ k e is. passed k (let lt = nth_below (moves_of at) k e is in omega (arith, past)) e (step_is at k ∙ is))
+      where
+        past : length (moves_of at) ≤ m
+        past = elim (cases_lt m (length (moves_of at))) [
+          | inl lt ↦ absurd (nth_there (moves_of at) m lt (sym (step_is at m) ∙ none))
+          | inr le ↦ le
+        ]

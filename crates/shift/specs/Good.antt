@@ -20,11 +20,6 @@ is_good_pour top marks p (Some d) = is_good top marks p d
 abbrev pub pours_good : ℕ → Table → List ℕ → ℕ → Edge → Bool
 pours_good top t marks c e = is_good_pour top marks e.target (t c e.amount)
 
--- there is a move, and from level c the vessel pours it to a good level
-abbrev pub is_good_step : ℕ → Table → List ℕ → ℕ → Option Edge → Bool
-is_good_step top t marks c None = false
-is_good_step top t marks c (Some e) = pours_good top t marks c e
-
 -- some move passes the test
 abbrev pub any_move : (Edge → Bool) → List Edge → Bool
 any_move test [] = false

@@ -1,9 +1,8 @@
 // Orders: given out for the first good move, and withdrawn.
 ghost use Rattle.std.specs.Prelude.{◌≡◌, true};
 ghost use Rattle.hopper.specs.Accepting.{Accepted};
-ghost use Rattle.hopper.specs.Boards.{step_at};
 ghost use Rattle.hopper.specs.Refusing.{Answers};
-ghost use Rattle.shift.specs.Good.{is_good_step, FirstGoodMove};
+ghost use Rattle.shift.specs.Good.{FirstGoodMove};
 ghost use Rattle.shift.specs.Checks.{names, order_checks};
 ghost use Rattle.shift.specs.Answers.{OrderAnswers, WithdrawnAnswers};
 
@@ -25,21 +24,6 @@ impl Order {
 }
 
 impl Shift {
-    // Whether the place has this move, and the vessel pours it to a good level.
-    fn is_good_move<B: Board, V: Vessel>(
-        &self,
-        board: &B,
-        vessel: &V,
-        marks: &[u32],
-        mv: u32,
-    ) -> bool
-        ensures { result ≡ is_good_step (V.Vessel.top vessel.now) (V.Vessel.table vessel.now) marks.now self.now.level (step_at ((B.Board.game board.now).at self.now.place) mv) }
-    {
-        board
-            .step(self.place, mv)
-            .is_some_and(|edge| pours_good(vessel, marks, self.level, edge))
-    }
-
     // The number of the first move that the vessel pours to a good level, where an order can be given out.
     fn first_good<B: Board, V: Vessel>(
         &self,
@@ -55,13 +39,22 @@ impl Shift {
             marks_too_short(board, vessel, marks),
             self.place_is(board, Owner::Theirs),
         ])?;
-        (0..board.moves(self.place).unwrap_or(0))
-            .find(|&m| self.is_good_move(board, vessel, marks, m))
-            .ok_or(Fault {
-                refusal: Refusal::NoGoodMove,
-                layer: Layer::Rest,
-                spot: self.place as u64,
-            })
+        let mut m = 0;
+        // kept as it is: asked for in this form, a loop that yields by `break` the number of the move that it finds
+        let found = loop {
+            let Some(edge) = board.step(self.place, m) else {
+                return Err(Fault {
+                    refusal: Refusal::NoGoodMove,
+                    layer: Layer::Rest,
+                    spot: self.place as u64,
+                });
+            };
+            if pours_good(vessel, marks, self.level, edge) {
+                break m;
+            }
+            m += 1;
+        };
+        Ok(found)
     }
 
     // Gives out the first move, in number order, that the vessel pours to a good level.
