@@ -5,7 +5,8 @@ use Rattle.std.specs.List.{slice_get}
 use Rattle.game.specs.Game.{Edge, Place, Game, SoundPlace, WellFormed}
 use Rattle.game.specs.Vessel.{Table, Keeps, lip, closed, drawn, unlimited}
 use Rattle.game.specs.Fill.{Holds, Good, IsMark, LeastGood, IsRow, IsLeast, Repeats, FirstRepeat}
-use Rattle.game.specs.Rows.{Need, Graded, need_lip, need_drawn, row_of}
+use Rattle.game.specs.Rows.{Need, Graded, need_lip}
+use Rattle.game.proofs.RowMaking.{need_drawn, row_of}
 use Rattle.game.specs.Cases.{two, line_p, line_q, LeastAre, MarksAre, LargestMark, WorkedCases}
 use Rattle.game.proofs.Base.{none_some, some_inj, not_dec, stable, find, choice_dec, pours_dec, step_dec, holds_dec, holds_le}
 use Rattle.game.proofs.Lip.{lip_at_drop_sum_is_no_lip}

@@ -4,7 +4,7 @@ use native.Mathlib.Decide.{dec_le}
 use Rattle.game.specs.Game.{Game, WellFormed, drop_sum}
 use Rattle.game.specs.Vessel.{Table, Keeps, capped, refused_past, unlimited, lip, closed}
 use Rattle.game.specs.Fill.{Holds, Good, IsMark}
-use Rattle.game.specs.Theorems.{GoodHoldsForever, GoodLeadsOn, EachFillHasMark, MarkTellsFate}
+use Rattle.game.proofs.Theorems.{GoodHoldsForever, GoodLeadsOn, EachFillHasMark, MarkTellsFate}
 use Rattle.game.proofs.Base.{none_some, some_inj, holds_dec}
 use Rattle.game.proofs.Force.{not_held_is_forced, held_has_plan}
 use Rattle.game.proofs.Sustain.{decided, forever, good_step}

@@ -6,7 +6,7 @@ use Rattle.game.specs.Game.{Owner, Ours, Theirs, Edge, Place, Game, SoundPlace, 
 use Rattle.game.specs.Vessel.{Table}
 use Rattle.game.specs.Fill.{Choice, Holds}
 use Rattle.game.specs.Play.{Plan, after, IsMove, Legal, LegalOver, chosen, RefusedWithin, OtherSideForces, WeHold}
-use Rattle.game.specs.Theorems.{NotHeldIsForced, HeldHasPlan}
+use Rattle.game.proofs.Theorems.{NotHeldIsForced, HeldHasPlan}
 use Rattle.game.proofs.Base.{none_some, some_inj, not_dec, stable, SomeMove, EachMove, find, Through, pours_dec, holds_dec}
 
 pub ours_theirs : Ours ≡ Theirs → ⊥

@@ -2,7 +2,7 @@
 use Rattle.std.proofs.Common.{◌≡◌, ℕ, zero, suc, ◌<◌, ◌≤◌, subst, inl, inr, eq-or-lt_of_le, arith}
 use Rattle.game.specs.Game.{Game, WellFormed}
 use Rattle.game.specs.Forced.{foe, ForcesInto, Forces}
-use Rattle.game.specs.Theorems.{ForcedSettles}
+use Rattle.game.proofs.Theorems.{ForcedSettles}
 use Rattle.game.proofs.Base.{choice_map}
 use Rattle.game.proofs.Force.{sound_at}
 

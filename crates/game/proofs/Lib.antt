@@ -1,4 +1,6 @@
 -- The proofs of this crate that others cite.
+pub mod RowMaking
+pub mod Theorems
 pub mod Base
 pub mod Bounded
 pub mod Force

@@ -6,7 +6,7 @@ use Rattle.std.specs.List.{slice_get}
 use Rattle.game.specs.Game.{Edge, Place, Game, WellFormed, InLimits, fall_of, drop_of, drop_at, drop_sum}
 use Rattle.game.specs.Vessel.{Table, unlimited, lip, capped}
 use Rattle.game.specs.Fill.{Step, Holds, Good, IsLeast, LeastGood}
-use Rattle.game.specs.Theorems.{LipAtDropSumIsNoLip}
+use Rattle.game.proofs.Theorems.{LipAtDropSumIsNoLip}
 use Rattle.game.proofs.Base.{none_some, some_inj, stable, Through, good_stable, choice_map, good_by}
 use Rattle.game.proofs.Force.{sound_at}
 use Rattle.game.proofs.Sustain.{good_step}

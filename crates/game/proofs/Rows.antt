@@ -5,8 +5,9 @@ use Rattle.std.specs.List.{slice_get}
 use Rattle.game.specs.Game.{Owner, Ours, Theirs, Edge, Place, Game, WellFormed, InLimits, sum_below}
 use Rattle.game.specs.Vessel.{Table, Keeps}
 use Rattle.game.specs.Fill.{Choice, Step, Holds, Good, IsMark, IsLeast, Row, IsRow, LeastGood}
-use Rattle.game.specs.Rows.{Reaches, IsNeed, Need, Graded, lesser, greater, best, need_if, serves, best_at, next_row, row_of}
-use Rattle.game.specs.Theorems.{NeedMakesRows, RepeatedRowIsLeastGood, SomeRowRepeats, Unique}
+use Rattle.game.specs.Rows.{Reaches, IsNeed, Need, Graded}
+use Rattle.game.proofs.RowMaking.{lesser, greater, best, need_if, serves, best_at, next_row, row_of}
+use Rattle.game.proofs.Theorems.{NeedMakesRows, RepeatedRowIsLeastGood, SomeRowRepeats, Unique}
 use Rattle.game.proofs.Base.{none_some, some_inj, stable, SomeMove, EachMove, each_cons, Through, choice_map, good_by, holds_pred}
 use Rattle.game.proofs.Force.{sound_at}
 use Rattle.game.proofs.Lip.{simulate, step_through, least_at_most, least_is}

@@ -9,7 +9,7 @@ use Rattle.game.specs.Limits.{most_amount, most_fills}
 use Rattle.game.specs.Vessel.{Table, Keeps}
 use Rattle.game.specs.Fill.{Choice, Holds, IsMark}
 use Rattle.game.specs.Forced.{foe, Forces, IsForced, cell, spill, landing, unfold_edge, unfold_moves, unfold_place, alone, unfold_at, only_spill, unfolded}
-use Rattle.game.specs.Theorems.{SpillIsForcedByMark, UnfoldedIsWellFormed}
+use Rattle.game.proofs.Theorems.{SpillIsForcedByMark, UnfoldedIsWellFormed}
 use Rattle.game.proofs.Base.{none_some, some_inj, not_dec, stable, SomeMove, EachMove, find, Through, pours_dec, holds_dec, choice_map}
 
 -- ---- who cannot do it, the other can prevent

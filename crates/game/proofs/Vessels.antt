@@ -4,8 +4,9 @@ use Rattle.std.proofs.lemmas.Int.{ints}
 use Rattle.game.specs.Game.{InLimits}
 use Rattle.game.specs.Limits.{most_amount, most_top}
 use Rattle.game.specs.Vessel.{Table, Keeps, natural, capped, refused_past, less_draw, unlimited, up_to, lip, drawn}
-use Rattle.game.specs.Rows.{Reaches, IsNeed, Graded, less_amount, some_if, need_lip, need_drawn}
-use Rattle.game.specs.Theorems.{VesselsKeepRules}
+use Rattle.game.specs.Rows.{Reaches, IsNeed, Graded, less_amount, some_if, need_lip}
+use Rattle.game.proofs.RowMaking.{need_drawn}
+use Rattle.game.proofs.Theorems.{VesselsKeepRules}
 use Rattle.game.proofs.Base.{none_some}
 use Rattle.game.proofs.Pour.{some_of, up_to_inv, up_to_make, up_to_above, natural_inv, capped_inv, refused_past_inv, lip_inv, lip_make}
 

@@ -5,7 +5,7 @@ use Rattle.std.proofs.lemmas.Int.{ints, clamps}
 use Rattle.game.specs.Game.{Edge, Game, WellFormed, InLimits}
 use Rattle.game.specs.Vessel.{unlimited, lip, closed}
 use Rattle.game.specs.Published.{Infinite, Wins, weakly, plainly}
-use Rattle.game.specs.Theorems.{LipIsLowerWeakUpperBound, ClosedIsIntervalBound, UnlimitedIsLowerBound}
+use Rattle.game.proofs.Theorems.{LipIsLowerWeakUpperBound, ClosedIsIntervalBound, UnlimitedIsLowerBound}
 use Rattle.game.proofs.Force.{sound_at}
 use Rattle.game.proofs.Decided.{lip_dec, closed_dec, free_dec}
 use Rattle.game.proofs.Outcomes.{Level, Stays, wins_good, good_wins}

@@ -41,12 +41,12 @@ abbrev pub MarksAre : Game → Table → ℕ → ℕ → List (Option ℕ) → T
 MarksAre g t p c [] = Unit
 MarksAre g t p c (o ∷ os) = IsMark g t p c o × MarksAre g t p (suc c) os
 
--- n is the largest mark, up to the top, that is a number
+-- n is the largest mark of a fill up to the top that is a number; there is none where all of these fills are good
 pub record LargestMark (g : Game) (top : ℕ) (t : Table) (n : ℕ) : Type 0 where
   pub most : (p c k : ℕ) → p < g.places → c ≤ top → IsMark g t p c (Some k) → k ≤ n
   pub attained : (p : ℕ) × (c : ℕ) × (p < g.places) × (c ≤ top) × IsMark g t p c (Some n)
 
--- What comes out for the two lines: None is no good fill, and the mark never.
+-- what comes out for the two lines; None is no good fill, and the mark never
 pub record WorkedCases : Type 0 where
   -- both lines keep the rules of a line
   pub formed : WellFormed line_p × WellFormed line_q

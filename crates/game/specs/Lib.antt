@@ -8,5 +8,4 @@ pub mod Play
 pub mod Rows
 pub mod Forced
 pub mod Published
-pub mod Theorems
 pub mod Cases

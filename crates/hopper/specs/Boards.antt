@@ -10,17 +10,17 @@ abbrev pub owner_at : Option Place → Option Owner
 owner_at None = None
 owner_at (Some q) = Some q.owner
 
--- how many moves it has
+-- how many moves what stands at a place number has, None where there is no place
 abbrev pub moves_at : Option Place → Option ℕ
 moves_at None = None
 moves_at (Some q) = Some (length q.moves)
 
--- its move of this number
+-- the move of this number of what stands at a place number, None where there is no such move
 abbrev pub step_at : Option Place → ℕ → Option Edge
 step_at None m = None
 step_at (Some q) m = slice_get q.moves m
 
--- how many moves there are to choose from, 0 where there is no place
+-- how many moves there are to choose from at a place number, 0 where there is no place
 abbrev pub count_at : Option Place → ℕ
 count_at None = 0
 count_at (Some q) = length q.moves

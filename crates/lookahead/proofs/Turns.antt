@@ -14,7 +14,7 @@ use Rattle.game.specs.Game.{Place, Game, WellFormed}
 use Rattle.game.specs.Fill.{Choice, Step, Holds}
 use Rattle.game.proofs.Base.{none_some, some_inj, holds_le, holds_dec}
 use Rattle.game.specs.Rows.{need_lip}
-use Rattle.game.specs.Rows.{need_drawn}
+use Rattle.game.proofs.RowMaking.{need_drawn}
 use Rattle.game.specs.Vessel.{lip, drawn}
 use Rattle.game.proofs.Rows.{holds_up}
 use Rattle.game.proofs.Vessels.{vessels_keep_rules}

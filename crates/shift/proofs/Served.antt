@@ -23,7 +23,7 @@ use Rattle.hopper.specs.Refusing.{verdict}
 use Rattle.hopper.proofs.Boards.{step_place, step_inside}
 use Rattle.hopper.proofs.Refusing.{none_fails, untrue}
 use Rattle.solver.specs.Entries.{never}
-use Rattle.solver.specs.Marking.{NeverIsGood}
+use Rattle.solver.specs.Marking.{GoodWhereNever}
 use Rattle.solver.specs.Planning.{is_theirs}
 use Rattle.shift.specs.declared.Order.{Order}
 use Rattle.shift.specs.declared.Shift.{Shift}
@@ -66,7 +66,7 @@ poured_on g t [] r' p c p1 c1 p2 c2 a b =
 poured_on g t (m ∷ r) r' p c p1 c1 p2 c2 a b =
     (a.0, a.1, a.2, a.3, poured_on g t r r' a.0.target a.2 p1 c1 p2 c2 a.4 b)
 
-module _ (g : Game) (wf : WellFormed g) (top : ℕ) (t : Table) (keeps : Keeps top t) (marks : List ℕ) (exact : NeverIsGood g top t marks) where
+module _ (g : Game) (wf : WellFormed g) (top : ℕ) (t : Table) (keeps : Keeps top t) (marks : List ℕ) (exact : GoodWhereNever g top t marks) where
   -- ---- what the marks call good is good
   pub called_good : (p c : ℕ) → p < g.places → c ≤ top → is_good top marks p c ≡ true → Good g t p c
   called_good p c lt le is = (exact p c lt le).0 (eqb-true (get_or marks (cell top p c) 0) never is)

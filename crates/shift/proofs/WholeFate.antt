@@ -18,7 +18,7 @@ use Rattle.hopper.specs.Refusing.{verdict}
 use Rattle.hopper.proofs.Refusing.{none_fails, all_pass, untrue, untrue_passes, passes_is}
 use Rattle.solver.specs.Entries.{entries}
 use Rattle.solver.specs.Least.{too_short, StillChanging, LeastAnswers, HoldsLeastGood, NeverGivesUp}
-use Rattle.solver.specs.Marking.{mark_checks, MarkAnswers, NeverIsGood}
+use Rattle.solver.specs.Marking.{mark_checks, MarkAnswers, GoodWhereNever}
 use Rattle.solver.proofs.Marks.{never_is_good, bad_is_forced_within, each_fill_has_fate}
 use Rattle.solver.proofs.RowByRow.{some_repeats}
 use Rattle.shift.specs.declared.Shift.{Shift}
@@ -35,7 +35,7 @@ module _ (g : Game) (wf : WellFormed g) (top : ℕ) (t : Table) (keeps : Keeps t
       → (number p c : ℕ) (s : Shift) → OpenAnswers g top marks number p c (Ok s)
       → (es : List Event) (s' : Shift) → History g top t marks s es s' → Served g t p c es s'
   good_start old marks rounds marked number p c s opened es s' h =
-      let exact : NeverIsGood g top t marks = never_is_good g wf top t keeps old marks (Ok rounds) marked in
+      let exact : GoodWhereNever g top t marks = never_is_good g wf top t keeps old marks (Ok rounds) marked in
       let passed = none_fails (open_checks g top marks p c) (ap is_ok opened.0) in
       let inside : p < g.places = leb-false g.places p (untrue _ _ passed.1.1.0) in
       let low : c ≤ top = ltb-false top c (untrue _ _ passed.1.1.1.0) in
@@ -48,7 +48,7 @@ module _ (g : Game) (wf : WellFormed g) (top : ℕ) (t : Table) (keeps : Keeps t
       → (number p c : ℕ) → p < g.places → Good g t p c
       → OpenAnswers g top marks number p c (Ok (record { number = number; place = p; level = c; opened = None }))
   good_opens old marks rounds marked number p c lt good =
-      let exact : NeverIsGood g top t marks = never_is_good g wf top t keeps old marks (Ok rounds) marked in
+      let exact : GoodWhereNever g top t marks = never_is_good g wf top t keeps old marks (Ok rounds) marked in
       let passed = none_fails (mark_checks g top (length old)) (ap is_ok marked.0) in
       let low : c ≤ top = good_level g wf top t keeps.above p c good in
       let room : ltb (length marks) (g.places * (top + 1) + 1) ≡ false =

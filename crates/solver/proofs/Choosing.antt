@@ -16,12 +16,12 @@ use Rattle.game.proofs.Base.{none_some, some_inj}
 use Rattle.hopper.specs.Boards.{owner_at, step_at, count_at}
 use Rattle.hopper.proofs.Boards.{step_place, step_at_lem, step_below, step_there, owned}
 use Rattle.solver.specs.Entries.{Tells}
-use Rattle.solver.specs.Forcing.{LeadsTo, SomeLeads, EachLeads}
+use Rattle.solver.specs.Forcing.{LeadsTo}
 
 -- where the place is ours every move has to lead there, where it is theirs some move
 Led : Owner → Game → (ℕ → Type 0) → ℕ → Type 0
-Led Ours g P p = EachLeads g P p
-Led Theirs g P p = SomeLeads g P p
+Led Ours g P p = (m : ℕ) (e : Edge) → step_at (g.at p) m ≡ Some e → P e.target
+Led Theirs g P p = (m : ℕ) × (e : Edge) × (step_at (g.at p) m ≡ Some e) × P e.target
 
 -- what is led there by number is led there by choice
 led_in : (o : Owner) (g : Game) (P : ℕ → Type 0) (p : ℕ) (q : Place) → g.at p ≡ Some q → Led o g P p → Choice (foe o) q.moves (λ e. P e.target)

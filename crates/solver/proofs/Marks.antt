@@ -1,8 +1,9 @@
 -- The forced marks of the unfolded board are the marks of the fills, and those tell their fates.
-use Rattle.std.proofs.Common.{◌≡◌, ℕ, zero, suc, ◌+◌, ◌<◌, ◌≤◌, ltb, leb, ◌↔◌, List, [], ◌∷◌, length, get_or, pos, Some, None, Ok, Err, Option, Result, sym, refl, ap, ◌∙◌, subst, inl, inr, arith}
+use Rattle.std.proofs.Common.{◌≡◌, ℕ, zero, suc, ◌+◌, ◌*◌, ◌<◌, ◌≤◌, ltb, leb, ◌↔◌, List, [], ◌∷◌, length, get_or, pos, Some, None, Ok, Err, Option, Result, sym, refl, ap, ◌∙◌, subst, inl, inr, arith}
 use native.Mathlib.Decide.{dec_le, ℕ_discrete}
 use Rattle.std.proofs.lemmas.Int.{ints}
 use Rattle.std.proofs.lemmas.Bool.{lt-leb, le-ltb}
+use Rattle.std.proofs.Math.Nat.{mul-pos}
 use Rattle.game.specs.Game.{Game, WellFormed}
 use Rattle.game.specs.Limits.{most_fills}
 use Rattle.game.specs.Vessel.{Table, Keeps, lip, closed}
@@ -10,7 +11,7 @@ use Rattle.game.specs.Fill.{Good, IsMark}
 use Rattle.game.specs.Forced.{IsForced, cell, spill, unfolded}
 use Rattle.game.specs.Play.{OtherSideForces}
 use Rattle.game.specs.Published.{LowerWeakUpperBound, IntervalBound}
-use Rattle.game.proofs.Base.{stable}
+use Rattle.game.proofs.Base.{some_inj, stable}
 use Rattle.game.proofs.Decided.{mark_tells_fate, each_fill_has_mark}
 use Rattle.game.proofs.Levels.{mark_above}
 use Rattle.game.proofs.Pour.{lip_make, closed_make}
@@ -25,7 +26,7 @@ use Rattle.hopper.specs.Refusing.{verdict}
 use Rattle.hopper.proofs.Refusing.{skipped}
 use Rattle.solver.specs.Entries.{never, as_entry, entries}
 use Rattle.solver.specs.Forcing.{forced_checks, ForcedMarks, ForcedAnswers}
-use Rattle.solver.specs.Marking.{mark_checks, FillMarks, MarkAnswers, TellsFates, NeverIsGood, NeverOrWithin, BadIsForcedWithin, OneAboveTop, EachFillHasFate, NeverWinsLowerWeakUpperBound, NeverWinsIntervalBound}
+use Rattle.solver.specs.Marking.{mark_checks, FillMarks, MarkAnswers, TellsFates, GoodWhereNever, NeverOrWithin, BadIsForcedWithin, OneAboveTop, EachFillHasFate, WinsLowerWeakUpperBoundWhereNever, WinsIntervalBoundWhereNever}
 use Rattle.solver.proofs.Entries.{entry_back, entry_number}
 use Rattle.solver.proofs.Unfolds.{places_are, small_spill, number_of}
 
@@ -63,11 +64,18 @@ module _ (g : Game) (wf : WellFormed g) (top : ℕ) (t : Table) (keeps : Keeps t
       let m = mark_above g wf top t keeps.above p c over in
       (m, (mark_tells_fate g wf top t keeps p c lt (Some 1) m).0)
 
-  pub each_fill_has_fate : EachFillHasFate g t
+  pub each_fill_has_fate : EachFillHasFate g top t
   each_fill_has_fate p c lt = elim (dec_le c top) [
-    | yes le ↦ (let w = each_fill_has_mark g wf top t keeps p c lt le in (w.0, w.1, mark_tells_fate g wf top t keeps p c lt w.0 w.1))
-    | no n ↦ (let m = mark_above g wf top t keeps.above p c (omega arith) in (Some 1, m, mark_tells_fate g wf top t keeps p c lt (Some 1) m))
+    | yes le ↦ (let w = each_fill_has_mark g wf top t keeps p c lt le in (w.0, w.1, mark_tells_fate g wf top t keeps p c lt w.0 w.1, w.2))
+    | no n ↦ (let m = mark_above g wf top t keeps.above p c (omega arith) in (Some 1, m, mark_tells_fate g wf top t keeps p c lt (Some 1) m, λ n e. at_least_one n (some_inj e)))
   ]
+    where
+      some_fill : zero < g.places * (top + 1)
+      some_fill = mul-pos (omega arith) (omega arith)
+
+      -- there is a place, so there is a fill
+      at_least_one : (n : ℕ) → 1 ≡ n → n ≤ g.places * (top + 1)
+      at_least_one n e = omega (arith, e, some_fill)
 
   module _ (small : spill g top ≤ most_fills) (old new : List ℕ) where
     places : (unfolded g top t).places ≡ spill g top + 1
@@ -107,7 +115,7 @@ module _ (g : Game) (wf : WellFormed g) (top : ℕ) (t : Table) (keeps : Keeps t
     tells_fates (Ok rounds) a = λ p c lt le. mark_tells_fate g wf top t keeps p c lt (entries new (cell top p c)) (a.1.exact p c lt le)
     tells_fates (Err e) a = tt
 
-    never_good : (rounds : ℕ) → FillMarks g top t old new rounds → NeverIsGood g top t new
+    never_good : (rounds : ℕ) → FillMarks g top t old new rounds → GoodWhereNever g top t new
     never_good rounds a p c lt le = at (get_or new (cell top p c) 0) (a.exact p c lt le)
       where
         at : (n : ℕ) → IsMark g t p c (as_entry n) → (n ≡ never) ↔ Good g t p c
@@ -116,7 +124,7 @@ module _ (g : Game) (wf : WellFormed g) (top : ℕ) (t : Table) (keeps : Keeps t
             other_bad : ¬ (n ≡ never) → Good g t p c → ⊥
             other_bad other good = (subst (IsMark g t p c) (entry_number n other) m).0 (good n)
 
-    pub never_is_good : (r : Result ℕ Fault) → MarkAnswers g top t old new r → Accepted (λ _. NeverIsGood g top t new) r
+    pub never_is_good : (r : Result ℕ Fault) → MarkAnswers g top t old new r → Accepted (λ _. GoodWhereNever g top t new) r
     never_is_good (Ok rounds) a = never_good rounds a.1
     never_is_good (Err e) a = tt
 
@@ -146,14 +154,14 @@ module _ (g : Game) (wf : WellFormed g) (top : ℕ) (t : Table) (keeps : Keeps t
     chain : {A B C : Type 0} → (A ↔ B) → (B ↔ C) → A ↔ C
     chain f h = (λ a. h.0 (f.0 a), λ c. f.1 (h.1 c))
 
-    pub never_wins_lower_weak_upper_bound : (r : Result ℕ Fault) → MarkAnswers g top t old new r → Accepted (λ _. NeverWinsLowerWeakUpperBound g top t new) r
+    pub never_wins_lower_weak_upper_bound : (r : Result ℕ Fault) → MarkAnswers g top t old new r → Accepted (λ _. WinsLowerWeakUpperBoundWhereNever g top t new) r
     never_wins_lower_weak_upper_bound (Ok rounds) a = λ b is p c lt le.
         let c≤ : c ≤ top = lip_below_top g top t keeps b is c le in
         chain (never_good rounds a.1 p c lt (omega arith))
         (subst (λ (u : Table). Good g u p c ↔ LowerWeakUpperBound g b p c) (sym is) (lip_is_lower_weak_upper_bound g wf b p c lt le))
     never_wins_lower_weak_upper_bound (Err e) a = tt
 
-    pub never_wins_interval_bound : (r : Result ℕ Fault) → MarkAnswers g top t old new r → Accepted (λ _. NeverWinsIntervalBound g top t new) r
+    pub never_wins_interval_bound : (r : Result ℕ Fault) → MarkAnswers g top t old new r → Accepted (λ _. WinsIntervalBoundWhereNever g top t new) r
     never_wins_interval_bound (Ok rounds) a = λ b is p c lt le.
         let c≤ : c ≤ top = closed_below_top g top t keeps b is c le in
         chain (never_good rounds a.1 p c lt (omega arith))

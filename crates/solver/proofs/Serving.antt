@@ -12,8 +12,16 @@ use Rattle.game.proofs.Base.{some_inj}
 use Rattle.hopper.specs.Boards.{owner_at, step_at, count_at}
 use Rattle.hopper.proofs.Boards.{step_place, step_at_lem, step_below, owned}
 use Rattle.solver.specs.Least.{Parts}
-use Rattle.solver.specs.RowSteps.{Enough, Serves, NeededFor, SomeServes, EachServes}
+use Rattle.solver.specs.RowSteps.{Enough, Serves, NeededFor}
 use Rattle.solver.proofs.Parting.{parts_map}
+
+-- from the level c some move of the place serves
+abbrev pub SomeServes : Game → Table → List ℕ → ℕ → ℕ → Type 0
+SomeServes g t row p c = (m : ℕ) × (e : Edge) × (step_at (g.at p) m ≡ Some e) × Serves t row e c
+
+-- from the level c every move of the place serves
+abbrev pub EachServes : Game → Table → List ℕ → ℕ → ℕ → Type 0
+EachServes g t row p c = (m : ℕ) (e : Edge) → step_at (g.at p) m ≡ Some e → Serves t row e c
 
 module _ (g : Game) (top : ℕ) (fits : top ≤ most_top) (t : Table) (row : List ℕ) (p : ℕ) where
   -- what one move needs is said of it wherever it is read

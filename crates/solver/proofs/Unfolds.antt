@@ -12,7 +12,7 @@ use Rattle.game.specs.Forced.{cell, spill, landing, unfold_edge, unfold_moves, u
 use Rattle.game.proofs.Base.{none_some}
 use Rattle.game.proofs.Unfold.{nth_in, length_unfold}
 use Rattle.hopper.specs.Boards.{moves_at, step_at}
-use Rattle.solver.specs.Unfolding.{fill_count}
+use Rattle.solver.specs.Unfolding.{spill_number}
 
 below : (b : Bool) (n s : ℕ) → s < cond b n 0 → (b ≡ true) × (s < n)
 below true n s h = (refl, h)
@@ -25,13 +25,13 @@ module _ (g : Game) (top : ℕ) (t : Table) where
   only : Game
   only = record { places = 1; at = only_spill }
 
-  pub small_spill : spill g top ≤ most_fills → fill_count g top ≡ spill g top
+  pub small_spill : spill g top ≤ most_fills → spill_number g top ≡ spill g top
   small_spill le = cond-true (leb (spill g top) most_fills) (spill g top) 0 (le-leb (spill g top) most_fills le)
 
-  pub within_fills : (s : ℕ) → s < fill_count g top → (spill g top ≤ most_fills) × (s < spill g top)
+  pub within_fills : (s : ℕ) → s < spill_number g top → (spill g top ≤ most_fills) × (s < spill g top)
   within_fills s h = let w = below (leb (spill g top) most_fills) (spill g top) s h in (leb-true (spill g top) most_fills w.0, w.1)
 
-  pub places_are : (unfolded g top t).places ≡ fill_count g top + 1
+  pub places_are : (unfolded g top t).places ≡ spill_number g top + 1
   places_are = go (leb (spill g top) most_fills)
     where
       go : (b : Bool) → (cond {A = Game} b (record { places = spill g top + 1; at = unfold_at g top t }) (record { places = 1; at = only_spill })).places ≡ cond b (spill g top) 0 + 1
@@ -43,7 +43,7 @@ module _ (g : Game) (top : ℕ) (t : Table) where
   wide_at s le = ap (λ (u : Game). u.at s) (cond-true (leb (spill g top) most_fills) wide only (le-leb (spill g top) most_fills le))
 
   -- a place at a level
-  pub at_fill : (s : ℕ) → s < fill_count g top → (unfolded g top t).at s ≡ unfold_place g top t (s % (top + 1)) (g.at (s / (top + 1)))
+  pub at_fill : (s : ℕ) → s < spill_number g top → (unfolded g top t).at s ≡ unfold_place g top t (s % (top + 1)) (g.at (s / (top + 1)))
   at_fill s h =
       let w = within_fills s h in
       wide_at s w.0 ∙ cond-true (ltb s (spill g top)) (unfold_place g top t (s % (top + 1)) (g.at (s / (top + 1)))) (cond (leb s (spill g top)) (Some (alone s)) None) (lt-ltb s (spill g top) w.1)
@@ -66,13 +66,13 @@ module _ (g : Game) (top : ℕ) (t : Table) where
   step_gone c None m h = refl
   step_gone c (Some q) m h = nth_none c q.moves m h
 
-  pub moves_fill : (s : ℕ) → s < fill_count g top → moves_at (g.at (s / (top + 1))) ≡ moves_at ((unfolded g top t).at s)
+  pub moves_fill : (s : ℕ) → s < spill_number g top → moves_at (g.at (s / (top + 1))) ≡ moves_at ((unfolded g top t).at s)
   moves_fill s h = moves_same (s % (top + 1)) (g.at (s / (top + 1))) ∙ ap moves_at (sym (at_fill s h))
 
-  pub step_fill : (s m : ℕ) (e : Edge) → s < fill_count g top → step_at (g.at (s / (top + 1))) m ≡ Some e → Some (unfold_edge g top t (s % (top + 1)) e) ≡ step_at ((unfolded g top t).at s) m
+  pub step_fill : (s m : ℕ) (e : Edge) → s < spill_number g top → step_at (g.at (s / (top + 1))) m ≡ Some e → Some (unfold_edge g top t (s % (top + 1)) e) ≡ step_at ((unfolded g top t).at s) m
   step_fill s m e h k = sym (step_same (s % (top + 1)) (g.at (s / (top + 1))) m e k) ∙ ap (λ (o : Option Place). step_at o m) (sym (at_fill s h))
 
-  pub step_no_fill : (s m : ℕ) → s < fill_count g top → step_at (g.at (s / (top + 1))) m ≡ None → None ≡ step_at ((unfolded g top t).at s) m
+  pub step_no_fill : (s m : ℕ) → s < spill_number g top → step_at (g.at (s / (top + 1))) m ≡ None → None ≡ step_at ((unfolded g top t).at s) m
   step_no_fill s m h k = sym (step_gone (s % (top + 1)) (g.at (s / (top + 1))) m k) ∙ ap (λ (o : Option Place). step_at o m) (sym (at_fill s h))
 
   pub number_of : (q c : ℕ) → q < g.places → c ≤ top → cell top q c < spill g top

@@ -10,7 +10,7 @@ never = 4294967295
 abbrev pub as_entry : ℕ → Option ℕ
 as_entry n = cond (n == never) None (Some n)
 
--- what a buffer holds, read so
+-- the entry of a buffer at a number, read as a mark or as an entry of a row
 abbrev pub entries : List ℕ → Row
 entries buffer k = as_entry (slice_index buffer k)
 

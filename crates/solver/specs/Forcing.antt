@@ -34,14 +34,6 @@ MarkedBelow marks round p = slice_index marks p < round
 abbrev pub LeadsTo : Game → (ℕ → Type 0) → ℕ → ℕ → Type 0
 LeadsTo g P p m = (e : Edge) × (step_at (g.at p) m ≡ Some e) × P e.target
 
--- some move of the place leads into P
-abbrev pub SomeLeads : Game → (ℕ → Type 0) → ℕ → Type 0
-SomeLeads g P p = (m : ℕ) × (e : Edge) × (step_at (g.at p) m ≡ Some e) × P e.target
-
--- every move of the place leads into P
-abbrev pub EachLeads : Game → (ℕ → Type 0) → ℕ → Type 0
-EachLeads g P p = (m : ℕ) (e : Edge) → step_at (g.at p) m ≡ Some e → P e.target
-
 -- the round has come to the first n places: those with a mark keep it, the others get the round as mark where the other side can force
 -- them into the places marked before, and fresh tells whether there was such a place
 pub record RoundDone (g : Game) (n : ℕ) (old new : List ℕ) (round : ℕ) (fresh : Bool) : Type 0 where

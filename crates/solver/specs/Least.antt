@@ -15,7 +15,7 @@ use Rattle.solver.specs.Entries.{never, entries, KeptFrom}
 abbrev pub too_short : Game → ℕ → ℕ → Bool
 too_short g room spare = nat_lt room g.places || nat_lt spare g.places
 
--- both buffers have room, and the rows up to the budget do not all change
+-- both buffers have room, and the rows up to the budget do not all change: the last check fails where `changing` says so
 abbrev pub least_checks : Game → ℕ → ℕ → ℕ → Bool → List Check
 least_checks g room spare budget changing =
     check (too_short g room spare) RowTooShort Rest g.places ∷ check changing RowsKeepChanging Rest budget ∷ []
@@ -71,7 +71,7 @@ WinsLowerWeakUpperBoundFrom g t row =
 abbrev pub HoldsLeastWithoutLip : Game → Table → List ℕ → Type 0
 HoldsLeastWithoutLip g t row = (b : ℕ) → t ≡ lip b → drop_sum g ≤ b → (p : ℕ) → p < g.places → LeastGood g unlimited p (entries row p)
 
--- those are the least credits that win the lower-bound problem
+-- over a lip no lower than the drop sum the entries are the least credits that win the lower-bound problem
 abbrev pub HoldsLeastLowerBound : Game → Table → List ℕ → Type 0
 HoldsLeastLowerBound g t row = (b : ℕ) → t ≡ lip b → drop_sum g ≤ b → (p : ℕ) → p < g.places → IsLeast (LowerBound g p) (entries row p)
 

@@ -1,5 +1,5 @@
 -- What `mark` answers, and what its marks tell.
-use Rattle.std.specs.Prelude.{◌≡◌, ℕ, ◌+◌, ◌<◌, ◌≤◌, ◌⊎◌, ◌↔◌, List, [], ◌∷◌, length, Some, Option, Result, nat_lt, slice_index, slice_index_or}
+use Rattle.std.specs.Prelude.{◌≡◌, ℕ, ◌+◌, ◌*◌, ◌<◌, ◌≤◌, ◌⊎◌, ◌↔◌, List, [], ◌∷◌, length, Some, Option, Result, nat_lt, slice_index}
 use Rattle.game.specs.Game.{Game}
 use Rattle.game.specs.Limits.{most_fills}
 use Rattle.game.specs.Vessel.{Table, lip, closed}
@@ -22,7 +22,7 @@ mark_checks g top room =
 -- each fill up to the top has its mark and the spill has 0, the rest of the buffer is as it was, and the rounds are the largest mark that is a number
 pub record FillMarks (g : Game) (top : ℕ) (t : Table) (old new : List ℕ) (rounds : ℕ) : Type 0 where
   pub exact : (p c : ℕ) → p < g.places → c ≤ top → IsMark g t p c (entries new (cell top p c))
-  pub spilt : slice_index_or new (spill g top) 0 ≡ 0
+  pub spilt : slice_index new (spill g top) ≡ 0
   pub kept : KeptFrom (spill g top + 1) old new
   pub largest : IsLargest (spill g top + 1) new rounds
 
@@ -36,8 +36,8 @@ abbrev pub TellsFates : Game → ℕ → Table → List ℕ → Type 0
 TellsFates g top t marks = (p c : ℕ) → p < g.places → c ≤ top → Fate g t p c (entries marks (cell top p c))
 
 -- an entry is never just where its fill is good
-abbrev pub NeverIsGood : Game → ℕ → Table → List ℕ → Type 0
-NeverIsGood g top t marks = (p c : ℕ) → p < g.places → c ≤ top → (slice_index marks (cell top p c) ≡ never) ↔ Good g t p c
+abbrev pub GoodWhereNever : Game → ℕ → Table → List ℕ → Type 0
+GoodWhereNever g top t marks = (p c : ℕ) → p < g.places → c ≤ top → (slice_index marks (cell top p c) ≡ never) ↔ Good g t p c
 
 -- each fill up to the top is marked never, or with a number that is at most the rounds
 abbrev pub NeverOrWithin : Game → ℕ → List ℕ → ℕ → Type 0
@@ -51,19 +51,20 @@ BadIsForcedWithin g top t rounds =
     → (n : ℕ) × IsMark g t p c (Some n) × OtherSideForces g t n p c × (c ≤ top → n ≤ rounds)
 
 -- over a lip an entry is never just where its fill, as a credit, wins the lower-weak-upper-bound problem
-abbrev pub NeverWinsLowerWeakUpperBound : Game → ℕ → Table → List ℕ → Type 0
-NeverWinsLowerWeakUpperBound g top t marks =
+abbrev pub WinsLowerWeakUpperBoundWhereNever : Game → ℕ → Table → List ℕ → Type 0
+WinsLowerWeakUpperBoundWhereNever g top t marks =
     (b : ℕ) → t ≡ lip b → (p c : ℕ) → p < g.places → c ≤ b → (slice_index marks (cell top p c) ≡ never) ↔ LowerWeakUpperBound g b p c
 
 -- over a closed vessel an entry is never just where its fill, as a credit, wins the interval-bound problem
-abbrev pub NeverWinsIntervalBound : Game → ℕ → Table → List ℕ → Type 0
-NeverWinsIntervalBound g top t marks =
+abbrev pub WinsIntervalBoundWhereNever : Game → ℕ → Table → List ℕ → Type 0
+WinsIntervalBoundWhereNever g top t marks =
     (b : ℕ) → t ≡ closed b → (p c : ℕ) → p < g.places → c ≤ b → (slice_index marks (cell top p c) ≡ never) ↔ IntervalBound g b p c
 
 -- a fill above the top has the mark 1: the other side has the next move refused, whatever we do
 abbrev pub OneAboveTop : Game → ℕ → Table → Type 0
 OneAboveTop g top t = (p c : ℕ) → p < g.places → top < c → IsMark g t p c (Some 1) × OtherSideForces g t 1 p c
 
--- each fill of each place, above the top too, has a mark, and that tells its fate
-abbrev pub EachFillHasFate : Game → Table → Type 0
-EachFillHasFate g t = (p c : ℕ) → p < g.places → (o : Option ℕ) × IsMark g t p c o × Fate g t p c o
+-- each fill of each place, above the top too, has a mark, which tells its fate, and is no number above the number of fills up to the top
+abbrev pub EachFillHasFate : Game → ℕ → Table → Type 0
+EachFillHasFate g top t =
+    (p c : ℕ) → p < g.places → (o : Option ℕ) × IsMark g t p c o × Fate g t p c o × ((n : ℕ) → o ≡ Some n → n ≤ g.places * (top + 1))

@@ -24,7 +24,7 @@ is_theirs None = false
 is_theirs (Some Ours) = false
 is_theirs (Some Theirs) = true
 
--- the place is there, the row has an entry for each place, the place is ours, and some move serves
+-- the place is there, the row has an entry for each place, the place is ours, and some move serves: the last of them fails where `unserved` says so
 abbrev pub plan_checks : Game → ℕ → ℕ → Bool → List Check
 plan_checks g room p unserved =
     check (nat_le g.places p) NoSuchPlace Rest p ∷ check (nat_lt room g.places) RowTooShort Rest g.places
@@ -66,8 +66,8 @@ FollowsPlan g top t row p (m ∷ run) =
     (owner_at (g.at p) ≡ Some Ours → Planned g top t row p m)
     × ((e : Edge) → IsMove g p m e → FollowsPlan g top t row e.target run)
 
--- on such a row a run that begins at or above the entry and follows the plan is poured move for move, whatever the other side does, and stays
--- at or above the entries
+-- on a row that parts good fills from bad ones a run that begins at a level up to the top, at or above the entry, and follows the plan is poured move
+-- for move, whatever the other side does, and stays at or above the entries
 abbrev pub PlannedRunsArePoured : Game → ℕ → Table → List ℕ → Type 0
 PlannedRunsArePoured g top t row =
     GoodFrom g top t row → (p c : ℕ) → p < g.places → Enough row p c → c ≤ top

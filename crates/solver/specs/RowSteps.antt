@@ -22,30 +22,22 @@ pub record NeededFor (g : Game) (top : ℕ) (t : Table) (row : List ℕ) (p m le
   pub is_move : step_at (g.at p) m ≡ Some move
   pub parts : Parts top (Serves t row move) level
 
--- its move m needs more than this level
+-- the place's move m needs more than this level
 pub record NeedsMore (g : Game) (top : ℕ) (t : Table) (row : List ℕ) (p level m : ℕ) : Type 0 where
   pub needed : ℕ
   pub is_needed : NeededFor g top t row p m needed
   pub more : level < needed
 
--- its move m serves from this level or one below
+-- the place's move m serves from this level or one below
 pub record NeedsAtMost (g : Game) (top : ℕ) (t : Table) (row : List ℕ) (p level m : ℕ) : Type 0 where
   pub needed : ℕ
   pub is_needed : NeededFor g top t row p m needed
   pub enough : needed ≤ level
 
--- its first such move, None where each move needs more
+-- the place's first move that serves from this level or one below, None where each move needs more
 abbrev pub FirstServing : Game → ℕ → Table → List ℕ → ℕ → ℕ → Option ℕ → Type 0
 FirstServing g top t row p level None = (m : ℕ) → m < count_at (g.at p) → NeedsMore g top t row p level m
 FirstServing g top t row p level (Some m) = NeedsAtMost g top t row p level m × ((k : ℕ) → k < m → NeedsMore g top t row p level k)
-
--- from the level c some move of the place serves
-abbrev pub SomeServes : Game → Table → List ℕ → ℕ → ℕ → Type 0
-SomeServes g t row p c = (m : ℕ) × (e : Edge) × (step_at (g.at p) m ≡ Some e) × Serves t row e c
-
--- from the level c every move of the place serves
-abbrev pub EachServes : Game → Table → List ℕ → ℕ → ℕ → Type 0
-EachServes g t row p c = (m : ℕ) (e : Edge) → step_at (g.at p) m ≡ Some e → Serves t row e c
 
 -- the first n entries of next part the levels from which one move leads to enough by the row; the others are as they were
 pub record NextRow (g : Game) (top : ℕ) (t : Table) (n : ℕ) (row old next : List ℕ) : Type 0 where

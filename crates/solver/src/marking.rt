@@ -3,7 +3,7 @@ ghost use Rattle.std.specs.Prelude.{◌≡◌, ◌+◌, min};
 ghost use Rattle.game.specs.Forced.{spill};
 ghost use Rattle.game.specs.Limits.{most_fills};
 ghost use Rattle.hopper.specs.Accepting.{Accepted};
-ghost use Rattle.solver.specs.Marking.{MarkAnswers, TellsFates, NeverIsGood, NeverOrWithin, BadIsForcedWithin, OneAboveTop, EachFillHasFate, NeverWinsLowerWeakUpperBound, NeverWinsIntervalBound};
+ghost use Rattle.solver.specs.Marking.{MarkAnswers, TellsFates, GoodWhereNever, NeverOrWithin, BadIsForcedWithin, OneAboveTop, EachFillHasFate, WinsLowerWeakUpperBoundWhereNever, WinsIntervalBoundWhereNever};
 
 use super::forcing::forced;
 use super::unfolded::{Unfolded, fills};
@@ -27,13 +27,13 @@ pub fn mark<'x, B: Board, V: Vessel>(
 ) -> Result<u32, Fault>
     ensures answer { MarkAnswers (B.Board.game board.now) (V.Vessel.top vessel.now) (V.Vessel.table vessel.now) marks.old marks.new result }
     ensures fates { Accepted (λ _. TellsFates (B.Board.game board.now) (V.Vessel.top vessel.now) (V.Vessel.table vessel.now) marks.new) result }
-    ensures good { Accepted (λ _. NeverIsGood (B.Board.game board.now) (V.Vessel.top vessel.now) (V.Vessel.table vessel.now) marks.new) result }
+    ensures good { Accepted (λ _. GoodWhereNever (B.Board.game board.now) (V.Vessel.top vessel.now) (V.Vessel.table vessel.now) marks.new) result }
     ensures bounded { Accepted (NeverOrWithin (B.Board.game board.now) (V.Vessel.top vessel.now) marks.new) result }
     ensures bad { Accepted (BadIsForcedWithin (B.Board.game board.now) (V.Vessel.top vessel.now) (V.Vessel.table vessel.now)) result }
-    ensures lip { Accepted (λ _. NeverWinsLowerWeakUpperBound (B.Board.game board.now) (V.Vessel.top vessel.now) (V.Vessel.table vessel.now) marks.new) result }
-    ensures closed { Accepted (λ _. NeverWinsIntervalBound (B.Board.game board.now) (V.Vessel.top vessel.now) (V.Vessel.table vessel.now) marks.new) result }
+    ensures lip { Accepted (λ _. WinsLowerWeakUpperBoundWhereNever (B.Board.game board.now) (V.Vessel.top vessel.now) (V.Vessel.table vessel.now) marks.new) result }
+    ensures closed { Accepted (λ _. WinsIntervalBoundWhereNever (B.Board.game board.now) (V.Vessel.top vessel.now) (V.Vessel.table vessel.now) marks.new) result }
     ensures above { Accepted (λ _. OneAboveTop (B.Board.game board.now) (V.Vessel.top vessel.now) (V.Vessel.table vessel.now)) result }
-    ensures each { Accepted (λ _. EachFillHasFate (B.Board.game board.now) (V.Vessel.table vessel.now)) result }
+    ensures each { Accepted (λ _. EachFillHasFate (B.Board.game board.now) (V.Vessel.top vessel.now) (V.Vessel.table vessel.now)) result }
 {
     let top = vessel.top();
     let count = fills(board, vessel);

@@ -2,7 +2,7 @@
 ghost use Rattle.std.specs.Prelude.{◌≡◌};
 ghost use Rattle.game.specs.Forced.{spill, unfolded};
 ghost use Rattle.game.proofs.Unfold.{unfolded_is_well_formed};
-ghost use Rattle.solver.specs.Unfolding.{fill_count};
+ghost use Rattle.solver.specs.Unfolding.{spill_number};
 
 use game::{Edge, Owner};
 use hopper::limits::MOST_FILLS;
@@ -25,7 +25,7 @@ pub fn fills<B: Board, V: Vessel>(board: &B, vessel: &V) -> u64
 impl<B: Board, V: Vessel> Unfolded<'_, B, V> {
     // How many fills there are, 0 where they are too many. It is the number of the spill.
     fn spill(&self) -> u32
-        ensures { result ≡ fill_count (B.Board.game self.now.board.now) (V.Vessel.top self.now.vessel.now) }
+        ensures { result ≡ spill_number (B.Board.game self.now.board.now) (V.Vessel.top self.now.vessel.now) }
     {
         let count = fills(self.board, self.vessel);
         if count <= MOST_FILLS { count as u32 } else { 0 }

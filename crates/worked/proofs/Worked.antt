@@ -65,21 +65,8 @@ not_no_lip belief =
 
 pub worked : Worked
 worked = record {
-  formed = worked_cases.formed;
-  drops = worked_cases.drops;
-  p_lip_6 = worked_cases.p_lip6;
-  p_lip_5 = worked_cases.p_lip5;
-  p_lip_4 = worked_cases.p_lip4;
-  p_no_lip = worked_cases.p_unlimited;
-  p_drawn_6 = worked_cases.p_drawn;
-  p_closed_6_pit = worked_cases.p_closed.0;
-  p_closed_6_press = worked_cases.p_closed.1;
-  p_closed_6_rounds = worked_cases.p_closed_rounds;
-  q_lip_10 = worked_cases.q_lip10;
+  lines = worked_cases;
   q_lip_10_plan = planned;
-  q_closed_5_ours = worked_cases.q_closed.0;
-  q_closed_5_theirs = worked_cases.q_closed.1;
-  q_closed_5_rounds = worked_cases.q_closed_rounds;
   first_litre = (refl, refl);
   last_litres = (refl, refl);
   one_not_two = (worked_cases.p_closed.0.1.0, not_at_two, not_one_two);

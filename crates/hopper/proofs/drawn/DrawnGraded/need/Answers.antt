@@ -3,7 +3,7 @@ use Rattle.std.proofs.Common.{◌≡◌, ℕ, Option, sym, subst, w32, SFits, ru
 use Rattle.std.proofs.lemmas.Int.{to_z-of_z}
 use Rattle.game.specs.Vessel.{drawn}
 use Rattle.game.specs.Rows.{IsNeed}
-use Rattle.game.specs.Rows.{need_drawn}
+use Rattle.game.proofs.RowMaking.{need_drawn}
 use Rattle.game.proofs.Vessels.{vessels_keep_rules}
 use Rattle.hopper.proofs.drawn.DrawnGraded.need.Goals as goal
 

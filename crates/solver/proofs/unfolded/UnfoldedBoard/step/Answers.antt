@@ -5,7 +5,7 @@ use Rattle.std.specs.Option.{MatchOption}
 use Rattle.game.specs.Forced.{landing, spill}
 use Rattle.hopper.specs.Boards.{step_at}
 use Rattle.hopper.proofs.Boards.{step_inside}
-use Rattle.solver.specs.Unfolding.{fill_count}
+use Rattle.solver.specs.Unfolding.{spill_number}
 use Rattle.solver.proofs.Unfolds.{step_fill, step_no_fill, number_of, within_fills, small_spill, landed}
 use Rattle.solver.proofs.unfolded.UnfoldedBoard.step.Goals as goal
 
@@ -14,7 +14,7 @@ returns-in_err-edge g c =
     let u = c.args.self.now in
     let game = g.B.Board.game u.board.now in
     let top = g.V.Vessel.top u.vessel.now in
-    let inside : c.args.place < fill_count game top = omega (arith, c.spill-spill.ensures) in
+    let inside : c.args.place < spill_number game top = omega (arith, c.spill-spill.ensures) in
     let none : step_at (game.at (c.args.place / (top + 1))) c.args.mv ≡ None = rw c.top.ensures at (sym c.step.ensures ∙ c.in_err-edge.was) in
     c.from_residual.ensures ∙ step_no_fill game top (g.V.Vessel.table u.vessel.now) c.args.place c.args.mv inside none
 
@@ -25,7 +25,7 @@ map_or-target-requires g c = λ level is.
     let top = g.V.Vessel.top u.vessel.now in
     let t = g.V.Vessel.table u.vessel.now in
     let e = c.in_ok-edge.edge in
-    let inside : c.args.place < fill_count game top = omega (arith, c.spill-spill.ensures) in
+    let inside : c.args.place < spill_number game top = omega (arith, c.spill-spill.ensures) in
     let small = within_fills game top t c.args.place inside in
     let some : step_at (game.at (c.args.place / (top + 1))) c.args.mv ≡ Some e = rw c.top.ensures at (sym c.step.ensures ∙ c.in_ok-edge.was) in
     let target = step_inside game (g.B.Board.formed u.board.now) (c.args.place / (top + 1)) c.args.mv e some in
@@ -43,7 +43,7 @@ returns g c =
     let top = g.V.Vessel.top u.vessel.now in
     let t = g.V.Vessel.table u.vessel.now in
     let e = c.in_ok-edge.edge in
-    let inside : c.args.place < fill_count game top = omega (arith, c.spill-spill.ensures) in
+    let inside : c.args.place < spill_number game top = omega (arith, c.spill-spill.ensures) in
     let small = within_fills game top t c.args.place inside in
     let some : step_at (game.at (c.args.place / (top + 1))) c.args.mv ≡ Some e = rw c.top.ensures at (sym c.step.ensures ∙ c.in_ok-edge.was) in
     let f : SFits w32 e.amount = search rules in

@@ -1,4 +1,4 @@
--- What is proved of every game and every vessel that keeps the rules: the statements.
+-- What the proofs of the crates above cite of every game and every vessel that keeps the rules: the statements. What a call promises stands in the specs/ of its crate.
 use Rattle.std.specs.Prelude.{◌≡◌, ℕ, suc, ◌+◌, ◌*◌, ◌<◌, ◌≤◌, ◌↔◌, Some, Option}
 use Rattle.game.specs.Game.{Game, WellFormed, drop_sum}
 use Rattle.game.specs.Limits.{most_fills}
@@ -6,7 +6,8 @@ use Rattle.game.specs.Vessel.{Table, Keeps, lip, closed, drawn, unlimited}
 use Rattle.game.specs.Published.{LowerWeakUpperBound, IntervalBound, LowerBound}
 use Rattle.game.specs.Fill.{Step, Holds, Good, IsMark, LeastGood, Row, IsRow}
 use Rattle.game.specs.Forced.{Forces, IsForced, cell, spill, unfolded}
-use Rattle.game.specs.Rows.{Need, Graded, row_of, need_lip, need_drawn}
+use Rattle.game.specs.Rows.{Need, Graded, need_lip}
+use Rattle.game.proofs.RowMaking.{row_of, need_drawn}
 use Rattle.game.specs.Play.{OtherSideForces, WeHold, WeHoldForever, Fate}
 
 -- A fill that does not hold for i moves, above the top too, is one from which the other side forces a refusal within i.
