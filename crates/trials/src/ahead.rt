@@ -108,6 +108,29 @@ fn each_fill_holds_for_no_moves(rt: HostRuntime) -> Result<(), Fail> {
     Ok(())
 }
 
+// A top at which there are far too many fills to mark.
+#[test]
+fn look_ahead_needs_no_marks(rt: HostRuntime) -> Result<(), Fail> {
+    let top = 2_560_000;
+    let cases = [
+        (Kind::Lip, 0, 0, 6, 1),
+        (Kind::Lip, 1, 1, 1, 0),
+        (Kind::Lip, 1, 2, 6, 1),
+        (Kind::Lip, 1, top, 6, 1),
+        (Kind::Closed, 0, top, 1, 1),
+        (Kind::Closed, 0, top, 2, 0),
+        (Kind::Closed, 1, top, 1, 0),
+        (Kind::Closed, 1, top - 4, 2, 1),
+        (Kind::Closed, 1, top - 4, 3, 0),
+        (Kind::Closed, 1, 1_280_000, 6, 1),
+    ];
+    for (kind, place, fill, k, held) in cases {
+        let file = line_q(rt.alloc(), kind, top)?;
+        assert_eq!(rt; look(rt.alloc(), &file, place, fill, k), (0, 0, held));
+    }
+    Ok(())
+}
+
 #[test]
 fn look_ahead_agrees_with_all_marks(rt: HostRuntime) -> Result<(), Fail> {
     let heap = rt.alloc();
