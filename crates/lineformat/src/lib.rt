@@ -2,7 +2,7 @@
 #![tactic(auto)]
 
 ghost use Rattle.std.specs.Prelude.{◌≡◌};
-ghost use Rattle.lineformat.specs.Kinds.{kind_number, KindOf};
+ghost use Rattle.lineformat.specs.Kinds.{kind_number, NamesKind};
 
 use game::Owner;
 use hopper::limits;
@@ -89,7 +89,7 @@ impl Kind {
 impl TryFrom<u8> for Kind {
     type Error = UnknownKind;
 
-    ghost try_from_gives = { KindOf };
+    ghost try_from_gives = { NamesKind };
 
     fn try_from(number: u8) -> Result<Self, UnknownKind> {
         match number {
