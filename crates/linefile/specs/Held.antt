@@ -6,7 +6,8 @@ use Rattle.lineformat.specs.declared.MoveRecord.{MoveRecord}
 use Rattle.lineformat.specs.declared.PlaceRecord.{PlaceRecord}
 use Rattle.lineformat.specs.Format.{Line, line_of, encode}
 use Rattle.lineformat.specs.Checks.{write_checks}
-use Rattle.lineformat.specs.Limits.{drawn_kind}
+use Rattle.lineformat.specs.declared.Kind.TheVariants.{Lip, Closed, Drawn}
+use Rattle.lineformat.specs.Kinds.{kind_number}
 use Rattle.hopper.specs.declared.any.AnyVessel.{AnyVessel}
 use Rattle.hopper.specs.declared.any.AnyVessel.TheVariants.{OfLip, OfClosed, OfDrawn}
 use Rattle.linefile.specs.declared.FileLine.{FileLine}
@@ -44,6 +45,6 @@ WritesAgain file l = (passes (write_checks l (length file)) ≡ true) × (encode
 
 -- the vessel is the one that the line names: of its kind, with its top, and with its draw where it has one
 abbrev pub OwnVessel : Line → AnyVessel → Type 0
-OwnVessel l (OfLip v) = (l.kind ≡ 0) × (v.top.litres ≡ l.top)
-OwnVessel l (OfClosed v) = (l.kind ≡ 1) × (v.top.litres ≡ l.top)
-OwnVessel l (OfDrawn v) = (l.kind ≡ drawn_kind) × (v.top.litres ≡ l.top) × (v.draw ≡ l.draw)
+OwnVessel l (OfLip v) = (l.kind ≡ kind_number Lip) × (v.top.litres ≡ l.top)
+OwnVessel l (OfClosed v) = (l.kind ≡ kind_number Closed) × (v.top.litres ≡ l.top)
+OwnVessel l (OfDrawn v) = (l.kind ≡ kind_number Drawn) × (v.top.litres ≡ l.top) × (v.draw ≡ l.draw)

@@ -77,6 +77,7 @@ impl<'a> FileLine<'a> {
         self.numbers().moves as usize
     }
 
+    #[tactic(auto, using(lineformat::proofs::Tests::kind_named))]
     pub fn kind(&self) -> Kind
         ensures { kind_number result ≡ (held self.now).kind }
     {

@@ -1,7 +1,12 @@
--- What the tests of the checks say.
-use Rattle.std.proofs.Common.{◌≡◌, ℕ, ◌≤◌, Bool, true, false, cond, not, eqb, ltb, is_some, Some, None, Option, sym, refl, ap, ◌∙◌, ⊎_elim, arith}
+-- What the tests of the checks say, of draws and kinds too.
+use Rattle.std.proofs.Common.{◌≡◌, ℕ, zero, suc, ◌≤◌, Bool, true, false, cond, not, eqb, ltb, is_some, Some, None, Option, Ok, Err, Result, sym, refl, ap, ◌∙◌, ⊎_elim, le_of_suc-le-suc, not-suc-le-zero, arith}
+use Rattle.std.specs.Result.{IsOk}
 use Rattle.std.proofs.lemmas.Bool.{cases_eq, cond-true, cond-false, true≢false, ltb-false, le-ltb, or_from, or_parts, eq-eqb, ne_eqb, eqb-true, not-false}
-use Rattle.lineformat.specs.Limits.{drawn_kind, most_draw}
+use Rattle.lineformat.specs.declared.Kind.{Kind}
+use Rattle.lineformat.specs.declared.Kind.TheVariants.{Lip, Closed, Drawn}
+use Rattle.lineformat.specs.declared.UnknownKind.{UnknownKind}
+use Rattle.lineformat.specs.Kinds.{NamesKind}
+use Rattle.lineformat.specs.Limits.{last_kind, drawn_kind, most_draw}
 use Rattle.lineformat.specs.WellFormed.{SoundDraw}
 use Rattle.lineformat.specs.Checks.{outside, unequal, bad_draw}
 
@@ -37,3 +42,11 @@ draw_good kind draw s = by (eqb kind drawn_kind) refl
 -- a sound draw is small, whatever the kind
 pub draw_small : (kind draw : ℕ) → SoundDraw kind draw → draw ≤ most_draw
 draw_small kind draw s = ⊎_elim (λ e. (s.0 e).1) (λ n. let z : draw ≡ 0 = s.1 n in omega arith) (cases_eq kind drawn_kind)
+
+-- a number up to the highest of a kind names a kind
+pub kind_named : (n : ℕ) → n ≤ last_kind → (r : Result Kind UnknownKind) → NamesKind n r → IsOk r
+kind_named n h (Ok k) a = refl
+kind_named zero h (Err e) a = absurd (a.1 Lip refl)
+kind_named (suc zero) h (Err e) a = absurd (a.1 Closed refl)
+kind_named (suc (suc zero)) h (Err e) a = absurd (a.1 Drawn refl)
+kind_named (suc (suc (suc n))) h (Err e) a = absurd (not-suc-le-zero (le_of_suc-le-suc (le_of_suc-le-suc h)))

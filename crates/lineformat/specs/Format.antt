@@ -3,9 +3,13 @@ use Rattle.std.specs.Prelude.{ℕ, ◌+◌, ◌-◌, ◌*◌, ◌/◌, ◌%◌, 
 use Rattle.std.proofs.Common.{to_z, of_z}
 use Rattle.std.specs.Int.{w16}
 use Rattle.std.specs.List.{flat_map, range_with_len}
+use Rattle.game.specs.declared.Owner.TheVariants.{Ours}
+use Rattle.game.specs.Owners.{owner_number}
+use Rattle.lineformat.specs.declared.Kind.TheVariants.{Lip}
 use Rattle.lineformat.specs.declared.MoveRecord.{MoveRecord}
 use Rattle.lineformat.specs.declared.Numbers.{Numbers}
 use Rattle.lineformat.specs.declared.PlaceRecord.{PlaceRecord}
+use Rattle.lineformat.specs.Kinds.{kind_number}
 use Rattle.lineformat.specs.Limits.{trailer_size, only_version}
 
 -- a line: its places, the moves of all places in place order, the bytes of all names in place order, and its vessel
@@ -34,7 +38,14 @@ move_of l m = slice_index_or l.moves m no_move
 -- the built-in line: one place of ours without a name, which leads to itself with 0; lip 0
 abbrev pub built_in : Line
 built_in =
-    record { places = record { owner = 0; letters = 0; moves = 1 } ∷ []; moves = no_move ∷ []; names = []; kind = 0; top = 0; draw = 0 }
+    record {
+      places = record { owner = owner_number Ours; letters = 0; moves = 1 } ∷ [];
+      moves = no_move ∷ [];
+      names = [];
+      kind = kind_number Lip;
+      top = 0;
+      draw = 0;
+    }
 
 -- a number in 2 bytes and in 4, low byte first
 abbrev pub in_two : ℕ → List ℕ

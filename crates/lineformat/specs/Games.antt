@@ -1,21 +1,21 @@
 -- The game of a line, and the table of its vessel.
-use Rattle.std.specs.Prelude.{ℕ, zero, suc, map, length}
+use Rattle.std.specs.Prelude.{ℕ, zero, suc, cond, map, length, ◌==◌}
 use Rattle.std.specs.List.{slice_get}
 use Rattle.std.specs.Option.{option_map}
 use Rattle.game.specs.declared.Edge.{Edge}
 use Rattle.game.specs.declared.Owner.{Owner}
 use Rattle.game.specs.declared.Owner.TheVariants.{Ours, Theirs}
 use Rattle.game.specs.Game.{Game, Place}
+use Rattle.game.specs.Owners.{owner_number}
 use Rattle.game.specs.Vessel.{Table, lip, closed, drawn}
 use Rattle.lineformat.specs.declared.MoveRecord.{MoveRecord}
 use Rattle.lineformat.specs.declared.PlaceRecord.{PlaceRecord}
 use Rattle.lineformat.specs.Format.{Line}
 use Rattle.lineformat.specs.WellFormed.{moves_of}
 
--- the owner of a number: 0 is ours, 1 theirs
+-- the owner that a place record's number names; a sound record has the number of ours or of theirs
 abbrev pub owner_from : ℕ → Owner
-owner_from zero = Ours
-owner_from (suc n) = Theirs
+owner_from n = cond (n == owner_number Ours) Ours Theirs
 
 -- the move that a record spells
 abbrev pub edge_from : MoveRecord → Edge

@@ -1,5 +1,9 @@
 -- The limits of a line file.
 use Rattle.std.specs.Prelude.{ℕ}
+use Rattle.game.specs.declared.Owner.TheVariants.{Theirs}
+use Rattle.game.specs.Owners.{owner_number}
+use Rattle.lineformat.specs.declared.Kind.TheVariants.{Drawn}
+use Rattle.lineformat.specs.Kinds.{kind_number}
 
 -- the bytes of the longest file, and of the trailer that ends each
 abbrev pub longest_file : ℕ
@@ -13,15 +17,15 @@ abbrev pub only_version : ℕ
 only_version = 1
 
 abbrev pub last_kind : ℕ
-last_kind = 2
+last_kind = kind_number Drawn
 
 -- the kind that has a draw
 abbrev pub drawn_kind : ℕ
-drawn_kind = 2
+drawn_kind = kind_number Drawn
 
 -- the highest number of an owner, the most places
 abbrev pub last_owner : ℕ
-last_owner = 1
+last_owner = owner_number Theirs
 
 abbrev pub most_places : ℕ
 most_places = 256
