@@ -45,7 +45,7 @@ impl<'a> FileLine<'a> {
     pub fn vessel(&self) -> AnyVessel
         ensures own { OwnVessel (held self.now) result }
         ensures top { any_top result ≡ (held self.now).top }
-        ensures table { any_table result ≡ table_of (held self.now).kind (held self.now).top (held self.now).draw }
+        ensures table { any_table result ≡ table_of (held self.now) }
     {
         let top = self.top();
         match self.kind() {

@@ -1,5 +1,5 @@
 -- The game of a line, and the table of its vessel.
-use Rattle.std.specs.Prelude.{ℕ, zero, suc, cond, map, length, ◌==◌}
+use Rattle.std.specs.Prelude.{ℕ, cond, map, length, ◌==◌}
 use Rattle.std.specs.List.{slice_get}
 use Rattle.std.specs.Option.{option_map}
 use Rattle.game.specs.declared.Edge.{Edge}
@@ -8,9 +8,11 @@ use Rattle.game.specs.declared.Owner.TheVariants.{Ours, Theirs}
 use Rattle.game.specs.Game.{Game, Place}
 use Rattle.game.specs.Owners.{owner_number}
 use Rattle.game.specs.Vessel.{Table, lip, closed, drawn}
+use Rattle.lineformat.specs.declared.Kind.TheVariants.{Lip, Closed}
 use Rattle.lineformat.specs.declared.MoveRecord.{MoveRecord}
 use Rattle.lineformat.specs.declared.PlaceRecord.{PlaceRecord}
 use Rattle.lineformat.specs.Format.{Line}
+use Rattle.lineformat.specs.Kinds.{kind_number}
 use Rattle.lineformat.specs.WellFormed.{moves_of}
 
 -- the owner that a place record's number names; a sound record has the number of ours or of theirs
@@ -29,8 +31,8 @@ place_from l p r = record { owner = owner_from r.owner; moves = map edge_from (m
 abbrev pub game_of : Line → Game
 game_of l = record { places = length l.places; at = λ p. option_map (place_from l p) (slice_get l.places p) }
 
--- the table of the vessel of a line, by its kind: 0 lip, 1 closed, 2 drawn
-abbrev pub table_of : ℕ → ℕ → ℕ → Table
-table_of zero top draw = lip top
-table_of (suc zero) top draw = closed top
-table_of (suc (suc k)) top draw = drawn top draw
+-- the table of the vessel of a line, by its kind; a sound line has the number of one of the three kinds
+abbrev pub table_of : Line → Table
+table_of l =
+    cond (l.kind == kind_number Lip) (lip l.top)
+    (cond (l.kind == kind_number Closed) (closed l.top) (drawn l.top l.draw))

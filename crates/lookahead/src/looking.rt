@@ -3,9 +3,9 @@ ghost use Rattle.std.specs.Prelude.{◌≡◌, ◌<◌, ◌≤◌, Ok, Decides};
 ghost use Rattle.game.specs.Fill.{Holds};
 ghost use Rattle.hopper.specs.Accepting.{Accepted};
 ghost use Rattle.hopper.specs.Refusing.{verdict};
-ghost use Rattle.lineformat.specs.Games.{game_of};
+ghost use Rattle.lineformat.specs.Games.{game_of, table_of};
 ghost use Rattle.linefile.specs.Held.{held};
-ghost use Rattle.lookahead.specs.Ahead.{own_table, look_checks, LookAnswers, TellsWhoPrevails};
+ghost use Rattle.lookahead.specs.Ahead.{look_checks, LookAnswers, TellsWhoPrevails};
 ghost use Rattle.lookahead.specs.Remembering.{top_in, table_in, OnBoard, Held};
 
 use super::remembering::{NOTHING_ASKED, is_ordered};
@@ -45,7 +45,7 @@ impl<'x> Outlook<'x> {
     fn new(line: &'x FileLine<'x>) -> Outlook<'x>
         ensures line { result.line.now ≡ line.now }
         ensures top { top_in result ≡ (held line.now).top }
-        ensures table { table_in result ≡ own_table (held line.now) }
+        ensures table { table_in result ≡ table_of (held line.now) }
     {
         let vessel = line.vessel();
         let places = Board::places(line);
@@ -86,7 +86,7 @@ impl<'x> Memory<'x> {
 // The answer to a question that passes the checks.
 fn looked<'x>(heap: Global, line: &'x FileLine<'x>, place: u32, fill: u32, k: u32) -> bool
     requires { Ok tt ≡ verdict (look_checks (held line.now) place fill k) }
-    ensures holds { Decides result (Holds (game_of (held line.now)) (own_table (held line.now)) k place fill) }
+    ensures holds { Decides result (Holds (game_of (held line.now)) (table_of (held line.now)) k place fill) }
     ensures prevails { TellsWhoPrevails (held line.now) place fill k result }
 {
     Memory::new(heap, Outlook::new(line)).holds(Question {

@@ -1,14 +1,21 @@
 -- What is left to show of `fmt`.
-use Rattle.std.proofs.Common.{◌≡◌, ℕ, List, ◌++◌, length, codes, decimal, subst}
+use Rattle.std.proofs.Common.{◌≡◌, ℕ, cond, eqb, List, ◌++◌, length, codes, decimal, subst}
 use Rattle.std.specs.Fmt.{HasWritten}
+use Rattle.lineformat.specs.declared.Kind.TheVariants.{Lip, Closed}
 use Rattle.lineformat.specs.Format.{Line}
+use Rattle.lineformat.specs.Kinds.{kind_number}
 use Rattle.linefile.specs.Held.{held}
-use Rattle.linefile.specs.Texts.{vessel_text, line_text}
+use Rattle.linefile.specs.Texts.{line_text}
 use Rattle.linefile.proofs.printing.FileLineDisplay.fmt.Goals as goal
 
 -- the row made of the numbers that were asked for
+abbrev vessel : ℕ → ℕ → ℕ → List ℕ
+vessel k t d =
+    cond (eqb k (kind_number Lip)) (codes "lip " ++ decimal t)
+    (cond (eqb k (kind_number Closed)) (codes "closed " ++ decimal t) (codes "drawn " ++ (decimal t ++ (codes " " ++ decimal d))))
+
 abbrev row : ℕ → ℕ → ℕ → ℕ → ℕ → List ℕ
-row n m k t d = codes "line " ++ (decimal n ++ (codes " places " ++ (decimal m ++ (codes " moves " ++ vessel_text k t d))))
+row n m k t d = codes "line " ++ (decimal n ++ (codes " places " ++ (decimal m ++ (codes " moves " ++ vessel k t d))))
 
 same_row : (l : Line) (n m k t d : ℕ) → n ≡ length l.places → m ≡ length l.moves → k ≡ l.kind → t ≡ l.top → d ≡ l.draw → row n m k t d ≡ line_text l
 same_row l n m k t d e1 e2 e3 e4 e5 = cc
