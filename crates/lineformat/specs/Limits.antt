@@ -1,4 +1,4 @@
--- The limits of a line file.
+-- The limits of a line file. They are its own: they stay as they are when those of boards and vessels, in `game/specs/Limits`, widen.
 use Rattle.std.specs.Prelude.{ℕ}
 use Rattle.game.specs.declared.Owner.TheVariants.{Theirs}
 use Rattle.game.specs.Owners.{owner_number}
