@@ -20,11 +20,11 @@ cube_of_litre = 3000000
 abbrev pub litres : ℕ → ℕ
 litres h = h * h * h / cube_of_litre
 
--- the height is on the gauge
+-- what `dip` checks: the height is on the gauge
 abbrev pub dip_checks : ℕ → List Check
 dip_checks h = check (nat_lt most_height h) HeightAboveGauge Rest h ∷ []
 
--- the gauge goes up to so many litres
+-- what `height` checks: the litres are no more than the gauge goes up to
 abbrev pub height_checks : ℕ → List Check
 height_checks wanted = check (nat_lt most_litres wanted) LitresAboveGauge Rest wanted ∷ []
 

@@ -13,9 +13,11 @@ use Rattle.hopper.specs.declared.any.AnyVessel.TheVariants.{OfLip, OfClosed, OfD
 use Rattle.linefile.specs.declared.FileLine.{FileLine}
 use Rattle.linefile.specs.declared.Name.{Name}
 
+-- the bytes of the file that a line stands on
 abbrev pub file_of : FileLine → List ℕ
 file_of b = b.file.bytes.now
 
+-- the line that the file of a line spells
 abbrev pub held : FileLine → Line
 held b = line_of (file_of b)
 
@@ -23,7 +25,7 @@ held b = line_of (file_of b)
 abbrev pub named : Option Name → Option (List ℕ × ℕ)
 named o = option_map (λ n. (n.letters.now, n.offset)) o
 
--- a name that was handed out is that part of the file
+-- a name that was handed out is the part of the file that begins at its offset
 abbrev pub PartOf : List ℕ → Option Name → Type 0
 PartOf file None = Unit {0}
 PartOf file (Some n) = n.letters.now ≡ take (length n.letters.now) (drop n.offset file)
@@ -39,7 +41,7 @@ retabled l ps ms = record {
   draw = l.draw;
 }
 
--- writing that line is accepted where there is room for the file, and makes the file again
+-- a line is written where there is room for the file, and what is written is the file again
 abbrev pub WritesAgain : List ℕ → Line → Type 0
 WritesAgain file l = (passes (write_checks l (length file)) ≡ true) × (encode l ≡ file)
 

@@ -12,7 +12,7 @@ use Rattle.lineformat.specs.declared.PlaceRecord.{PlaceRecord}
 use Rattle.lineformat.specs.Kinds.{kind_number}
 use Rattle.lineformat.specs.Limits.{trailer_size, only_version}
 
--- a line: its places, the moves of all places in place order, the bytes of all names in place order, and its vessel
+-- a line: its places, the moves of all places in place order, the bytes of all names in place order, and its vessel by its numbers
 pub record Line : Type 0 where
   pub places : List PlaceRecord
   pub moves : List MoveRecord
@@ -21,17 +21,19 @@ pub record Line : Type 0 where
   pub top : ℕ
   pub draw : ℕ
 
--- what stands where there is no such move or place
+-- the record that stands for a move that a line does not have
 abbrev pub no_move : MoveRecord
 no_move = record { target = 0; amount = pos 0 }
 
+-- the record that stands for a place that a line does not have
 abbrev pub no_place : PlaceRecord
 no_place = record { owner = 0; letters = 0; moves = 0 }
 
--- the place and the move of a number
+-- the record of place p of a line
 abbrev pub place_of : Line → ℕ → PlaceRecord
 place_of l p = slice_index_or l.places p no_place
 
+-- the record of move m of a line, counted over all its places
 abbrev pub move_of : Line → ℕ → MoveRecord
 move_of l m = slice_index_or l.moves m no_move
 
@@ -47,27 +49,29 @@ built_in =
       draw = 0;
     }
 
--- a number in 2 bytes and in 4, low byte first
+-- a number as 2 bytes, low byte first
 abbrev pub in_two : ℕ → List ℕ
 in_two n = (n % 256) ∷ (n / 256 % 256) ∷ []
 
+-- a number as 4 bytes, low byte first
 abbrev pub in_four : ℕ → List ℕ
 in_four n = (n % 256) ∷ (n / 256 % 256) ∷ (n / 65536 % 256) ∷ (n / 16777216 % 256) ∷ []
 
--- a move: its target, then its amount as a signed number of 16 bits
+-- the 4 bytes of a move: its target, then its amount as a signed number of 16 bits
 abbrev pub move_bytes : MoveRecord → List ℕ
 move_bytes m = in_two m.target ++ in_two (of_z w16 m.amount)
 
--- a place: its owner, the length of its name, the number of its moves
+-- the 4 bytes of a place: its owner, the length of its name, the number of its moves
 abbrev pub place_bytes : PlaceRecord → List ℕ
 place_bytes p = p.owner ∷ p.letters ∷ in_two p.moves
 
--- the trailer: places, moves, top, draw, kind, version, and how far back from the trailer the moves begin
+-- the 16 bytes of a trailer: places, moves, top, draw, kind, version, and how far back from the trailer the moves begin
 abbrev pub trailer_bytes : Numbers → List ℕ
 trailer_bytes n =
     in_two n.places ++ (in_two n.moves ++ (in_four n.top ++ (in_two n.draw
     ++ (n.kind ∷ only_version ∷ in_four (4 * (n.moves + n.places))))))
 
+-- the five numbers of a line that its file's trailer has
 abbrev pub numbers_of : Line → Numbers
 numbers_of l = record { places = length l.places; moves = length l.moves; top = l.top; draw = l.draw; kind = l.kind }
 
@@ -75,30 +79,33 @@ numbers_of l = record { places = length l.places; moves = length l.moves; top = 
 unfoldable pub encode : Line → List ℕ
 encode l = l.names ++ (flat_map move_bytes l.moves ++ (flat_map place_bytes l.places ++ trailer_bytes (numbers_of l)))
 
--- the number in 2 bytes, and in 4, at an offset
+-- the number that the 2 bytes at an offset spell, low byte first
 abbrev pub two_at : List ℕ → ℕ → ℕ
 two_at bs o = slice_index bs o + slice_index bs (o + 1) * 256
 
+-- the number that the 4 bytes at an offset spell, low byte first
 abbrev pub four_at : List ℕ → ℕ → ℕ
 four_at bs o =
     slice_index bs o + slice_index bs (o + 1) * 256 + slice_index bs (o + 2) * 65536 + slice_index bs (o + 3) * 16777216
 
--- the move and the place at an offset
+-- the move that the 4 bytes at an offset spell
 abbrev pub move_at : List ℕ → ℕ → MoveRecord
 move_at bs o = record { target = two_at bs o; amount = to_z w16 (two_at bs (o + 2)) }
 
+-- the place that the 4 bytes at an offset spell
 abbrev pub place_at : List ℕ → ℕ → PlaceRecord
 place_at bs o = record { owner = slice_index bs o; letters = slice_index bs (o + 1); moves = two_at bs (o + 2) }
 
--- the offset of the trailer, and of its numbers
+-- the offset of the trailer of a file
 abbrev pub trailer : List ℕ → ℕ
 trailer bs = length bs - trailer_size
 
+-- the offset of each of the five numbers in the trailer of a file
 abbrev pub offsets_in : List ℕ → Numbers
 offsets_in bs =
     record { places = trailer bs; moves = trailer bs + 2; top = trailer bs + 4; draw = trailer bs + 8; kind = trailer bs + 10 }
 
--- the fields of the trailer
+-- the five numbers in the trailer of a file
 abbrev pub numbers_in : List ℕ → Numbers
 numbers_in bs =
     record {
@@ -109,22 +116,27 @@ numbers_in bs =
       kind = slice_index bs (trailer bs + 10);
     }
 
+-- the version in the trailer of a file
 abbrev pub version_in : List ℕ → ℕ
 version_in bs = slice_index bs (trailer bs + 11)
 
+-- how far back from the trailer the moves begin, as the trailer of a file says it
 abbrev pub distance_in : List ℕ → ℕ
 distance_in bs = four_at bs (trailer bs + 12)
 
+-- how many places a file has, as its trailer says it
 abbrev pub places_in : List ℕ → ℕ
 places_in bs = (numbers_in bs).places
 
+-- how many moves a file has, as its trailer says it
 abbrev pub moves_in : List ℕ → ℕ
 moves_in bs = (numbers_in bs).moves
 
--- where the places begin, and the moves before them
+-- the offset at which the places of a file begin, by the numbers in its trailer
 abbrev pub places_from : List ℕ → ℕ
 places_from bs = trailer bs - 4 * places_in bs
 
+-- the offset at which the moves of a file begin and its names end, by the numbers in its trailer
 abbrev pub moves_from : List ℕ → ℕ
 moves_from bs = trailer bs - 4 * (moves_in bs + places_in bs)
 
@@ -132,7 +144,7 @@ moves_from bs = trailer bs - 4 * (moves_in bs + places_in bs)
 abbrev pub records_at : {R : Type 0} → (List ℕ → ℕ → R) → List ℕ → ℕ → ℕ → List R
 records_at at bs o n = map (λ i. at bs (o + i * 4)) (range_with_len 0 n)
 
--- the line that the fields of the bytes spell
+-- the line that the bytes of a file spell
 unfoldable pub line_of : List ℕ → Line
 line_of bs =
     record {

@@ -19,11 +19,11 @@ use Rattle.lineformat.specs.WellFormed.{moves_of}
 abbrev pub owner_from : ℕ → Owner
 owner_from n = cond (n == owner_number Ours) Ours Theirs
 
--- the move that a record spells
+-- the move of a game that a move record spells
 abbrev pub edge_from : MoveRecord → Edge
 edge_from m = record { target = m.target; amount = m.amount }
 
--- the place that a record spells, with its moves
+-- the place of a game that a place record of a line spells, with its moves
 abbrev pub place_from : Line → ℕ → PlaceRecord → Place
 place_from l p r = record { owner = owner_from r.owner; moves = map edge_from (moves_of l p) }
 

@@ -5,52 +5,58 @@ use Rattle.game.specs.Owners.{owner_number}
 use Rattle.lineformat.specs.declared.Kind.TheVariants.{Drawn}
 use Rattle.lineformat.specs.Kinds.{kind_number}
 
--- the bytes of the longest file, and of the trailer that ends each
+-- the bytes of the longest line file
 abbrev pub longest_file : ℕ
 longest_file = 25616
 
+-- the bytes of the trailer that ends a line file
 abbrev pub trailer_size : ℕ
 trailer_size = 16
 
--- the one version, the highest number of a kind
+-- the one version of a line file
 abbrev pub only_version : ℕ
 only_version = 1
 
+-- the highest number of a kind of vessel
 abbrev pub last_kind : ℕ
 last_kind = kind_number Drawn
 
--- the kind that has a draw
+-- the number of the kind of vessel that has a draw
 abbrev pub drawn_kind : ℕ
 drawn_kind = kind_number Drawn
 
--- the highest number of an owner, the most places
+-- the highest number of an owner
 abbrev pub last_owner : ℕ
 last_owner = owner_number Theirs
 
+-- the most places of a line file
 abbrev pub most_places : ℕ
 most_places = 256
 
--- of all places together
+-- the most moves of a line file, of all places together
 abbrev pub most_moves : ℕ
 most_moves = 4096
 
--- litres, in or out
+-- the most litres that a move of a line file pours in or takes out
 abbrev pub most_amount : ℕ
 most_amount = 10000
 
+-- the highest top of the vessel of a line file
 abbrev pub most_top : ℕ
 most_top = 2560000
 
+-- the most litres that the drawn vessel of a line file loses at a pour
 abbrev pub most_draw : ℕ
 most_draw = 10000
 
--- the letters of the longest name
+-- the bytes of the longest name of a place
 abbrev pub longest_name : ℕ
 longest_name = 32
 
--- the printable characters
+-- the lowest byte that a name may have, which is the blank
 abbrev pub first_letter : ℕ
 first_letter = 32
 
+-- the highest byte that a name may have, which is the last printable one
 abbrev pub last_letter : ℕ
 last_letter = 126
