@@ -1,12 +1,13 @@
 -- The bytes of the line that some bytes spell are those bytes.
 use Rattle.std.proofs.Common.{◌≡◌, ℕ, zero, suc, ◌+◌, ◌*◌, ◌/◌, ◌%◌, ◌<◌, ◌≤◌, List, [], ◌∷◌, ◌++◌, map, length, get_or, take, drop, sym, refl, ap, ◌∙◌, arith, w16, to_z, of_z}
+use Rattle.std.specs.Int.{w32, to_le_bytes}
 use Rattle.std.specs.List.{flat_map, range_with_len}
 use Rattle.std.proofs.lemmas.List.{append_assoc, drop_more, take-append-drop, drop_all}
 use Rattle.std.proofs.lemmas.Int.{of_z-to_z}
 use Rattle.lineformat.specs.declared.Numbers.{Numbers}
-use Rattle.lineformat.specs.Format.{in_two, in_four, two_at, four_at, move_bytes, place_bytes, trailer_bytes, move_at, place_at, records_at, encode, line_of, trailer, numbers_in, places_in, moves_in, places_from, moves_from}
+use Rattle.lineformat.specs.Format.{two_at, four_at, move_bytes, place_bytes, trailer_bytes, move_at, place_at, records_at, encode, line_of, trailer, numbers_in, places_in, moves_in, places_from, moves_from}
 use Rattle.lineformat.proofs.Sound.{SoundTrailer}
-use Rattle.lineformat.proofs.Spelt.{count_places, count_moves}
+use Rattle.lineformat.proofs.Spelt.{two_is, four_is, count_places, count_moves}
 
 -- each is a byte
 abbrev pub Octets : List ℕ → Type 0
@@ -28,7 +29,7 @@ cut_four bs o q e h =
     let c : drop (o + 3) bs ≡ get_or bs (o + 3) 0 ∷ drop q bs = cut_one bs (o + 3) q (omega arith) h in
     a ∙ ap (λ t. get_or bs o 0 ∷ get_or bs (o + 1) 0 ∷ t) (b ∙ ap (λ t. get_or bs (o + 2) 0 ∷ t) c)
 
-in_two_lem : (x y : ℕ) → x < 256 → y < 256 → in_two (x + y * 256) ≡ x ∷ y ∷ []
+in_two_lem : (x y : ℕ) → x < 256 → y < 256 → to_le_bytes w16 (x + y * 256) ≡ x ∷ y ∷ []
 in_two_lem x y h k =
     let a : (x + y * 256) % 256 ≡ x = omega arith in
     let b : (x + y * 256) / 256 ≡ y = omega arith in
@@ -36,7 +37,7 @@ in_two_lem x y h k =
     let d : (x + y * 256) / 256 % 256 ≡ y = ap (λ n. n % 256) b ∙ c in
     cc
 
-in_four_lem : (x y z w : ℕ) → x < 256 → y < 256 → z < 256 → w < 256 → in_four (x + y * 256 + z * 65536 + w * 16777216) ≡ x ∷ y ∷ z ∷ w ∷ []
+in_four_lem : (x y z w : ℕ) → x < 256 → y < 256 → z < 256 → w < 256 → to_le_bytes w32 (x + y * 256 + z * 65536 + w * 16777216) ≡ x ∷ y ∷ z ∷ w ∷ []
 in_four_lem x y z w h k u v =
     let n : ℕ = x + y * 256 + z * 65536 + w * 16777216 in
     let a : n % 256 ≡ x = omega arith in
@@ -51,27 +52,27 @@ in_four_lem x y z w h k u v =
     let e3 : n / 16777216 % 256 ≡ w = ap (λ n. n % 256) d ∙ d2 in
     cc
 
-two_again : (bs : List ℕ) (o : ℕ) → Octets bs → in_two (two_at bs o) ≡ get_or bs o 0 ∷ get_or bs (o + 1) 0 ∷ []
-two_again bs o b = in_two_lem (get_or bs o 0) (get_or bs (o + 1) 0) (b o) (b (o + 1))
+two_again : (bs : List ℕ) (o : ℕ) → Octets bs → to_le_bytes w16 (two_at bs o) ≡ get_or bs o 0 ∷ get_or bs (o + 1) 0 ∷ []
+two_again bs o b = ap (to_le_bytes w16) (two_is bs o) ∙ in_two_lem (get_or bs o 0) (get_or bs (o + 1) 0) (b o) (b (o + 1))
 
-four_again : (bs : List ℕ) (o : ℕ) → Octets bs → in_four (four_at bs o) ≡ get_or bs o 0 ∷ get_or bs (o + 1) 0 ∷ get_or bs (o + 2) 0 ∷ get_or bs (o + 3) 0 ∷ []
-four_again bs o b = in_four_lem (get_or bs o 0) (get_or bs (o + 1) 0) (get_or bs (o + 2) 0) (get_or bs (o + 3) 0) (b o) (b (o + 1)) (b (o + 2)) (b (o + 3))
+four_again : (bs : List ℕ) (o : ℕ) → Octets bs → to_le_bytes w32 (four_at bs o) ≡ get_or bs o 0 ∷ get_or bs (o + 1) 0 ∷ get_or bs (o + 2) 0 ∷ get_or bs (o + 3) 0 ∷ []
+four_again bs o b = ap (to_le_bytes w32) (four_is bs o) ∙ in_four_lem (get_or bs o 0) (get_or bs (o + 1) 0) (get_or bs (o + 2) 0) (get_or bs (o + 3) 0) (b o) (b (o + 1)) (b (o + 2)) (b (o + 3))
 
 -- a record and what follows it
 move_there : (bs : List ℕ) (o q : ℕ) → Octets bs → o + 4 ≡ q → q ≤ length bs → move_bytes (move_at bs o) ++ drop q bs ≡ drop o bs
 move_there bs o q b e h =
-    let w : of_z w16 (to_z w16 (two_at bs (o + 2))) ≡ two_at bs (o + 2) = of_z-to_z w16 (two_at bs (o + 2)) (let b2 = b (o + 2) in let b3 = b (o + 2 + 1) in omega arith) in
-    let s : move_bytes (move_at bs o) ≡ in_two (two_at bs o) ++ in_two (two_at bs (o + 2)) = ap (λ n. in_two (two_at bs o) ++ in_two n) w in
-    let t1 : in_two (two_at bs o) ≡ get_or bs o 0 ∷ get_or bs (o + 1) 0 ∷ [] = two_again bs o b in
-    let t2 : in_two (two_at bs (o + 2)) ≡ get_or bs (o + 2) 0 ∷ get_or bs (o + 2 + 1) 0 ∷ [] = two_again bs (o + 2) b in
+    let w : of_z w16 (to_z w16 (two_at bs (o + 2))) ≡ two_at bs (o + 2) = of_z-to_z w16 (two_at bs (o + 2)) (let b2 = b (o + 2) in let b3 = b (o + 2 + 1) in let b4 = two_is bs (o + 2) in omega arith) in
+    let s : move_bytes (move_at bs o) ≡ to_le_bytes w16 (two_at bs o) ++ to_le_bytes w16 (two_at bs (o + 2)) = ap (λ n. to_le_bytes w16 (two_at bs o) ++ to_le_bytes w16 n) w in
+    let t1 : to_le_bytes w16 (two_at bs o) ≡ get_or bs o 0 ∷ get_or bs (o + 1) 0 ∷ [] = two_again bs o b in
+    let t2 : to_le_bytes w16 (two_at bs (o + 2)) ≡ get_or bs (o + 2) 0 ∷ get_or bs (o + 2 + 1) 0 ∷ [] = two_again bs (o + 2) b in
     let c1 : drop o bs ≡ get_or bs o 0 ∷ get_or bs (o + 1) 0 ∷ drop (o + 2) bs = cut_two bs o (o + 2) refl (omega arith) in
     let c2 : drop (o + 2) bs ≡ get_or bs (o + 2) 0 ∷ get_or bs (o + 2 + 1) 0 ∷ drop q bs = cut_two bs (o + 2) q (omega arith) h in
-    ap (λ x. x ++ drop q bs) (s ∙ ap (λ x. x ++ in_two (two_at bs (o + 2))) t1 ∙ ap (λ x. get_or bs o 0 ∷ get_or bs (o + 1) 0 ∷ x) t2)
+    ap (λ x. x ++ drop q bs) (s ∙ ap (λ x. x ++ to_le_bytes w16 (two_at bs (o + 2))) t1 ∙ ap (λ x. get_or bs o 0 ∷ get_or bs (o + 1) 0 ∷ x) t2)
     ∙ sym (c1 ∙ ap (λ x. get_or bs o 0 ∷ get_or bs (o + 1) 0 ∷ x) c2)
 
 place_there : (bs : List ℕ) (o q : ℕ) → Octets bs → o + 4 ≡ q → q ≤ length bs → place_bytes (place_at bs o) ++ drop q bs ≡ drop o bs
 place_there bs o q b e h =
-    let t2 : in_two (two_at bs (o + 2)) ≡ get_or bs (o + 2) 0 ∷ get_or bs (o + 2 + 1) 0 ∷ [] = two_again bs (o + 2) b in
+    let t2 : to_le_bytes w16 (two_at bs (o + 2)) ≡ get_or bs (o + 2) 0 ∷ get_or bs (o + 2 + 1) 0 ∷ [] = two_again bs (o + 2) b in
     let c1 : drop o bs ≡ get_or bs o 0 ∷ get_or bs (o + 1) 0 ∷ drop (o + 2) bs = cut_two bs o (o + 2) refl (omega arith) in
     let c2 : drop (o + 2) bs ≡ get_or bs (o + 2) 0 ∷ get_or bs (o + 2 + 1) 0 ∷ drop q bs = cut_two bs (o + 2) q (omega arith) h in
     ap (λ x. get_or bs o 0 ∷ get_or bs (o + 1) 0 ∷ (x ++ drop q bs)) t2
@@ -113,12 +114,12 @@ trailer_there bs b s =
     let c11 : drop (t + 11) bs ≡ get_or bs (t + 11) 0 ∷ drop (t + 12) bs = cut_one bs (t + 11) (t + 12) (omega arith) (omega arith) in
     let c12 : drop (t + 12) bs ≡ get_or bs (t + 12) 0 ∷ get_or bs (t + 12 + 1) 0 ∷ get_or bs (t + 12 + 2) 0 ∷ get_or bs (t + 12 + 3) 0 ∷ drop (t + 16) bs = cut_four bs (t + 12) (t + 16) (omega arith) (omega arith) in
     let c16 : drop (t + 16) bs ≡ [] = drop_all (t + 16) bs (omega arith) in
-    let e0 : in_two (places_in bs) ≡ get_or bs t 0 ∷ get_or bs (t + 1) 0 ∷ [] = two_again bs t b in
-    let e2 : in_two (moves_in bs) ≡ get_or bs (t + 2) 0 ∷ get_or bs (t + 2 + 1) 0 ∷ [] = two_again bs (t + 2) b in
-    let e4 : in_four (numbers_in bs).top ≡ get_or bs (t + 4) 0 ∷ get_or bs (t + 4 + 1) 0 ∷ get_or bs (t + 4 + 2) 0 ∷ get_or bs (t + 4 + 3) 0 ∷ [] = four_again bs (t + 4) b in
-    let e8 : in_two (numbers_in bs).draw ≡ get_or bs (t + 8) 0 ∷ get_or bs (t + 8 + 1) 0 ∷ [] = two_again bs (t + 8) b in
-    let e12 : in_four (4 * (moves_in bs + places_in bs)) ≡ get_or bs (t + 12) 0 ∷ get_or bs (t + 12 + 1) 0 ∷ get_or bs (t + 12 + 2) 0 ∷ get_or bs (t + 12 + 3) 0 ∷ [] = ap in_four (sym s.distance) ∙ four_again bs (t + 12) b in
-    joins (numbers_in bs).kind (in_two (places_in bs)) (in_two (moves_in bs)) (in_four (numbers_in bs).top) (in_two (numbers_in bs).draw) (in_four (4 * (moves_in bs + places_in bs))) e0 e2 e4 e8 e12 s.version
+    let e0 : to_le_bytes w16 (places_in bs) ≡ get_or bs t 0 ∷ get_or bs (t + 1) 0 ∷ [] = two_again bs t b in
+    let e2 : to_le_bytes w16 (moves_in bs) ≡ get_or bs (t + 2) 0 ∷ get_or bs (t + 2 + 1) 0 ∷ [] = two_again bs (t + 2) b in
+    let e4 : to_le_bytes w32 (numbers_in bs).top ≡ get_or bs (t + 4) 0 ∷ get_or bs (t + 4 + 1) 0 ∷ get_or bs (t + 4 + 2) 0 ∷ get_or bs (t + 4 + 3) 0 ∷ [] = four_again bs (t + 4) b in
+    let e8 : to_le_bytes w16 (numbers_in bs).draw ≡ get_or bs (t + 8) 0 ∷ get_or bs (t + 8 + 1) 0 ∷ [] = two_again bs (t + 8) b in
+    let e12 : to_le_bytes w32 (4 * (moves_in bs + places_in bs)) ≡ get_or bs (t + 12) 0 ∷ get_or bs (t + 12 + 1) 0 ∷ get_or bs (t + 12 + 2) 0 ∷ get_or bs (t + 12 + 3) 0 ∷ [] = ap (to_le_bytes w32) (sym s.distance) ∙ four_again bs (t + 12) b in
+    joins (numbers_in bs).kind (to_le_bytes w16 (places_in bs)) (to_le_bytes w16 (moves_in bs)) (to_le_bytes w32 (numbers_in bs).top) (to_le_bytes w16 (numbers_in bs).draw) (to_le_bytes w32 (4 * (moves_in bs + places_in bs))) e0 e2 e4 e8 e12 s.version
     ∙ sym (c0 ∙ ap (λ x. get_or bs t 0 ∷ get_or bs (t + 1) 0 ∷ x) (c2 ∙ ap (λ x. get_or bs (t + 2) 0 ∷ get_or bs (t + 2 + 1) 0 ∷ x) (c4 ∙ ap (λ x. get_or bs (t + 4) 0 ∷ get_or bs (t + 4 + 1) 0 ∷ get_or bs (t + 4 + 2) 0 ∷ get_or bs (t + 4 + 3) 0 ∷ x) (
     c8 ∙ ap (λ x. get_or bs (t + 8) 0 ∷ get_or bs (t + 8 + 1) 0 ∷ x) (c10 ∙ ap (λ x. get_or bs (t + 10) 0 ∷ x) (c11 ∙ ap (λ x. get_or bs (t + 11) 0 ∷ x) (c12 ∙ ap (λ x. get_or bs (t + 12) 0 ∷ get_or bs (t + 12 + 1) 0 ∷ get_or bs (t + 12 + 2) 0 ∷ get_or bs (t + 12 + 3) 0 ∷ x) c16)))))))
   where

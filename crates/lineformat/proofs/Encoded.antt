@@ -14,6 +14,7 @@ use Rattle.lineformat.specs.Format.{Line, numbers_of, two_at, move_bytes, place_
 use Rattle.lineformat.specs.WellFormed.{WellFormedLine}
 use Rattle.lineformat.specs.Checks.{trailer_checks, record_checks, read_checks, accepts}
 use Rattle.lineformat.proofs.Scan.{sum_part}
+use Rattle.lineformat.proofs.Spelt.{two_is, four_is}
 use Rattle.lineformat.proofs.Tables.{length_joined}
 use Rattle.lineformat.proofs.Sound.{SoundTrailer, trailer_passes, records_pass}
 use Rattle.lineformat.proofs.Tests.{draw_small}
@@ -80,6 +81,8 @@ moves_again front ms rest o e fit = sym (fill_by_all (λ i. move_at (front ++ (j
         let t = two_bytes m.target (fit k h).0 in
         let u = two_bytes (of_z w16 m.amount) (search (rules, (fit k h).1)) in
         let v = to_z-of_z w16 m.amount (fit k h).1 in
+        let x = two_is B q in
+        let y = two_is B (q + 2) in
         let et : m.target ≡ two_at B q = cc in
         let ea : m.amount ≡ to_z w16 (two_at B (q + 2)) = cc in
         same_move m (two_at B q) (to_z w16 (two_at B (q + 2))) et ea
@@ -98,6 +101,7 @@ places_again front ps rest o e fit = sym (fill_by_all (λ i. place_at (front ++ 
         let a2 : get_or B (q + 2) 0 ≡ p.moves % 256 = byte_at place_bytes (λ x. refl) front ps rest o k 2 (q + 2) no_place e h (omega arith) (omega arith) in
         let a3 : get_or B (q + 2 + 1) 0 ≡ p.moves / 256 % 256 = byte_at place_bytes (λ x. refl) front ps rest o k 3 (q + 2 + 1) no_place e h (omega arith) (omega arith) in
         let t = two_bytes p.moves (fit k h) in
+        let y = two_is B (q + 2) in
         let ec : p.moves ≡ two_at B (q + 2) = cc in
         same_place p (get_or B q 0) (get_or B (q + 1) 0) (two_at B (q + 2)) (sym a0) (sym a1) ec
 
@@ -150,6 +154,7 @@ places_in_lem l h =
     let a : get_or (encode l) t 0 ≡ length l.places % 256 = tail_byte l 0 t (omega arith) in
     let b : get_or (encode l) (t + 1) 0 ≡ length l.places / 256 % 256 = tail_byte l 1 (t + 1) refl in
     let c = two_bytes (length l.places) h in
+    let d = two_is (encode l) t in
     cc
 
 moves_in_lem : (l : Line) → length l.moves < 65536 → moves_in (encode l) ≡ length l.moves
@@ -158,6 +163,7 @@ moves_in_lem l h =
     let a : get_or (encode l) (t + 2) 0 ≡ length l.moves % 256 = tail_byte l 2 (t + 2) refl in
     let b : get_or (encode l) (t + 2 + 1) 0 ≡ length l.moves / 256 % 256 = tail_byte l 3 (t + 2 + 1) (omega arith) in
     let c = two_bytes (length l.moves) h in
+    let d = two_is (encode l) (t + 2) in
     cc
 
 top_in : (l : Line) → l.top < 16777216 → (numbers_in (encode l)).top ≡ l.top
@@ -168,6 +174,7 @@ top_in l h =
     let c : get_or (encode l) (t + 4 + 2) 0 ≡ l.top / 65536 % 256 = tail_byte l 6 (t + 4 + 2) (omega arith) in
     let d : get_or (encode l) (t + 4 + 3) 0 ≡ l.top / 16777216 % 256 = tail_byte l 7 (t + 4 + 3) (omega arith) in
     let e = four_bytes l.top h in
+    let f = four_is (encode l) (t + 4) in
     cc
 
 draw_in : (l : Line) → l.draw < 65536 → (numbers_in (encode l)).draw ≡ l.draw
@@ -176,6 +183,7 @@ draw_in l h =
     let a : get_or (encode l) (t + 8) 0 ≡ l.draw % 256 = tail_byte l 8 (t + 8) refl in
     let b : get_or (encode l) (t + 8 + 1) 0 ≡ l.draw / 256 % 256 = tail_byte l 9 (t + 8 + 1) (omega arith) in
     let c = two_bytes l.draw h in
+    let d = two_is (encode l) (t + 8) in
     cc
 
 kind_in : (l : Line) → (numbers_in (encode l)).kind ≡ l.kind
@@ -193,6 +201,7 @@ distance_in_lem l h =
     let c : get_or (encode l) (t + 12 + 2) 0 ≡ n / 65536 % 256 = tail_byte l 14 (t + 12 + 2) (omega arith) in
     let d : get_or (encode l) (t + 12 + 3) 0 ≡ n / 16777216 % 256 = tail_byte l 15 (t + 12 + 3) (omega arith) in
     let e = four_bytes n h in
+    let f = four_is (encode l) (t + 12) in
     cc
 
 abbrev line_with : List PlaceRecord → List MoveRecord → List ℕ → ℕ → ℕ → ℕ → Line

@@ -2,14 +2,32 @@
 use Rattle.std.proofs.Common.{◌≡◌, ℕ, zero, suc, ◌+◌, ◌-◌, ◌*◌, ◌<◌, ◌≤◌, List, [], ◌∷◌, length, get_or, take, drop, is_some, Some, None, sym, refl, ap, ◌∙◌, le_of_suc-le-suc, not-suc-le-zero, arith}
 use Rattle.std.specs.List.{slice_get}
 use Rattle.std.proofs.lemmas.List.FromFn.{length-map-range_with_len, get_or-map-range_with_len}
-use Rattle.std.proofs.lemmas.List.{get_or_past, get_or-take, length-take-le, length-take, drop-take, take-take}
+use Rattle.std.proofs.lemmas.List.{get_or_past, get_or-take, get_or-drop, length-take-le, length-take, drop-take, take-take}
 use Rattle.std.proofs.lemmas.Bool.{true≢false}
 use Rattle.std.proofs.lemmas.Option.{slice_get-get_or, slice_get_past}
 use Rattle.lineformat.specs.declared.Numbers.{Numbers}
 use Rattle.lineformat.specs.declared.PlaceRecord.{PlaceRecord}
 use Rattle.lineformat.specs.Limits.{most_places, trailer_size}
-use Rattle.lineformat.specs.Format.{Line, place_of, no_place, place_at, move_at, records_at, line_of, numbers_of, numbers_in, places_in, moves_in, places_from, moves_from}
+use Rattle.lineformat.specs.Format.{Line, place_of, no_place, two_at, four_at, place_at, move_at, records_at, line_of, numbers_of, numbers_in, places_in, moves_in, places_from, moves_from}
 use Rattle.lineformat.specs.WellFormed.{moves_before, moves_of, name_at}
+
+-- the number at an offset, by the bytes from there on
+one_on : (bs : List ℕ) (o : ℕ) → get_or (drop o bs) 0 0 ≡ get_or bs o 0
+one_on bs o = get_or-drop o bs 0 0 ∙ ap (λ i. get_or bs i 0) (let z : o + 0 ≡ o = omega arith in z)
+
+pub two_is : (bs : List ℕ) (o : ℕ) → two_at bs o ≡ get_or bs o 0 + get_or bs (o + 1) 0 * 256
+two_is bs o =
+    let a = one_on bs o in
+    let b = get_or-drop o bs 1 0 in
+    cc
+
+pub four_is : (bs : List ℕ) (o : ℕ) → four_at bs o ≡ get_or bs o 0 + get_or bs (o + 1) 0 * 256 + get_or bs (o + 2) 0 * 65536 + get_or bs (o + 3) 0 * 16777216
+four_is bs o =
+    let a = one_on bs o in
+    let b = get_or-drop o bs 1 0 in
+    let c = get_or-drop o bs 2 0 in
+    let d = get_or-drop o bs 3 0 in
+    cc
 
 pub count_places : (bs : List ℕ) → length (line_of bs).places ≡ places_in bs
 unfolding line_of

@@ -1,7 +1,6 @@
 -- The line file: the bytes of a line, and the line that some bytes spell.
-use Rattle.std.specs.Prelude.{ℕ, ◌+◌, ◌-◌, ◌*◌, ◌/◌, ◌%◌, List, [], ◌∷◌, ◌++◌, map, length, take, pos, slice_index, slice_index_or}
-use Rattle.std.proofs.Common.{to_z, of_z}
-use Rattle.std.specs.Int.{w16}
+use Rattle.std.specs.Prelude.{ℕ, ◌+◌, ◌-◌, ◌*◌, List, [], ◌∷◌, ◌++◌, map, length, take, drop, pos, slice_index, slice_index_or}
+use Rattle.std.specs.Int.{w16, w32, to_le_bytes, from_le_bytes, cast_signed, cast_unsigned}
 use Rattle.std.specs.List.{flat_map, range_with_len}
 use Rattle.game.specs.declared.Owner.TheVariants.{Ours}
 use Rattle.game.specs.Owners.{owner_number}
@@ -49,27 +48,19 @@ built_in =
       draw = 0;
     }
 
--- a number as 2 bytes, low byte first
-abbrev pub in_two : ℕ → List ℕ
-in_two n = (n % 256) ∷ (n / 256 % 256) ∷ []
-
--- a number as 4 bytes, low byte first
-abbrev pub in_four : ℕ → List ℕ
-in_four n = (n % 256) ∷ (n / 256 % 256) ∷ (n / 65536 % 256) ∷ (n / 16777216 % 256) ∷ []
-
 -- the 4 bytes of a move: its target, then its amount as a signed number of 16 bits
 abbrev pub move_bytes : MoveRecord → List ℕ
-move_bytes m = in_two m.target ++ in_two (of_z w16 m.amount)
+move_bytes m = to_le_bytes w16 m.target ++ to_le_bytes w16 (cast_unsigned w16 m.amount)
 
 -- the 4 bytes of a place: its owner, the length of its name, the number of its moves
 abbrev pub place_bytes : PlaceRecord → List ℕ
-place_bytes p = p.owner ∷ p.letters ∷ in_two p.moves
+place_bytes p = p.owner ∷ p.letters ∷ to_le_bytes w16 p.moves
 
 -- the 16 bytes of a trailer: places, moves, top, draw, kind, version, and how far back from the trailer the moves begin
 abbrev pub trailer_bytes : Numbers → List ℕ
 trailer_bytes n =
-    in_two n.places ++ (in_two n.moves ++ (in_four n.top ++ (in_two n.draw
-    ++ (n.kind ∷ only_version ∷ in_four (4 * (n.moves + n.places))))))
+    to_le_bytes w16 n.places ++ (to_le_bytes w16 n.moves ++ (to_le_bytes w32 n.top ++ (to_le_bytes w16 n.draw
+    ++ (n.kind ∷ only_version ∷ to_le_bytes w32 (4 * (n.moves + n.places))))))
 
 -- the five numbers of a line that its file's trailer has
 abbrev pub numbers_of : Line → Numbers
@@ -81,16 +72,15 @@ encode l = l.names ++ (flat_map move_bytes l.moves ++ (flat_map place_bytes l.pl
 
 -- the number that the 2 bytes at an offset spell, low byte first
 abbrev pub two_at : List ℕ → ℕ → ℕ
-two_at bs o = slice_index bs o + slice_index bs (o + 1) * 256
+two_at bs o = from_le_bytes w16 (drop o bs)
 
 -- the number that the 4 bytes at an offset spell, low byte first
 abbrev pub four_at : List ℕ → ℕ → ℕ
-four_at bs o =
-    slice_index bs o + slice_index bs (o + 1) * 256 + slice_index bs (o + 2) * 65536 + slice_index bs (o + 3) * 16777216
+four_at bs o = from_le_bytes w32 (drop o bs)
 
 -- the move that the 4 bytes at an offset spell
 abbrev pub move_at : List ℕ → ℕ → MoveRecord
-move_at bs o = record { target = two_at bs o; amount = to_z w16 (two_at bs (o + 2)) }
+move_at bs o = record { target = two_at bs o; amount = cast_signed w16 (two_at bs (o + 2)) }
 
 -- the place that the 4 bytes at an offset spell
 abbrev pub place_at : List ℕ → ℕ → PlaceRecord
