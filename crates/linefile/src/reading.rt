@@ -115,12 +115,8 @@ impl<'a> FileLine<'a> {
     pub fn step_of(&self, p: usize, m: usize) -> Option<MoveRecord>
         ensures { result ≡ slice_get (moves_of (held self.now) p) m }
     {
-        let place = self.place(p)?;
-        if m < place.moves as usize {
-            self.step(self.firsts[p] as usize + m)
-        } else {
-            None
-        }
+        self.place(p).filter(|place| m < place.moves as usize)?;
+        self.step(self.firsts[p] as usize + m)
     }
 
     // The names of all places, one after another, as that part of the file.

@@ -153,16 +153,11 @@ impl<'a> Trailed<'a> {
     }
 
     // The record of a number, or nothing where there is no such record.
-    #[tactic(auto, using(lineformat::proofs::Spelt::one_record))]
     pub(crate) fn get<R: Record>(&self, i: usize) -> Option<R>
         ensures { result ≡ slice_get (R.Record.list (line_of self.now.bytes.now)) i }
     {
         let (from, n) = R::part(self);
-        if i < n {
-            Some(R::read_at(self.bytes, from + i * 4))
-        } else {
-            None
-        }
+        (i < n).then(|| R::read_at(self.bytes, from + i * 4))
     }
 
     // Fills the first entries of a table with the records.

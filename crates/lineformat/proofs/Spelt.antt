@@ -1,9 +1,10 @@
 -- The parts of the line that some bytes spell.
-use Rattle.std.proofs.Common.{◌≡◌, ℕ, zero, suc, ◌+◌, ◌-◌, ◌*◌, ◌<◌, ◌≤◌, List, [], ◌∷◌, length, get_or, take, drop, is_some, Some, None, sym, refl, ap, ◌∙◌, le_of_suc-le-suc, not-suc-le-zero, arith}
+use Rattle.std.proofs.Common.{◌≡◌, ℕ, zero, suc, ◌+◌, ◌-◌, ◌*◌, ◌<◌, ◌≤◌, List, [], ◌∷◌, ltb, length, get_or, take, drop, is_some, Some, None, Option, sym, refl, ap, ◌∙◌, le_of_suc-le-suc, not-suc-le-zero, arith}
 use Rattle.std.specs.List.{slice_get}
+use Rattle.std.specs.Option.{IfSome}
 use Rattle.std.proofs.lemmas.List.FromFn.{length-map-range_with_len, get_or-map-range_with_len}
 use Rattle.std.proofs.lemmas.List.{get_or_past, get_or-take, get_or-drop, length-take-le, length-take, drop-take, take-take}
-use Rattle.std.proofs.lemmas.Bool.{true≢false}
+use Rattle.std.proofs.lemmas.Bool.{true≢false, ltb-true, ltb-false}
 use Rattle.std.proofs.lemmas.Option.{slice_get-get_or, slice_get_past}
 use Rattle.lineformat.specs.declared.Numbers.{Numbers}
 use Rattle.lineformat.specs.declared.PlaceRecord.{PlaceRecord}
@@ -99,6 +100,12 @@ one_record at bs from n i xs e h =
     let f = λ (k : ℕ). at bs (from + k * 4) in
     let l = length-map-range_with_len f 0 n in
     ap (λ ys. slice_get ys i) e ∙ slice_get-get_or (records_at at bs from n) i (f i) (omega arith) ∙ ap Some (get_or-map-range_with_len f 0 n i i (f i) h (omega arith))
+
+-- what was read, by what is known of it: the record of a number, or nothing where there is no such record
+pub read_record : {R : Type 0} {P : R → Type 0} (at : List ℕ → ℕ → R) (bs : List ℕ) (from n i : ℕ) (xs : List R) → xs ≡ records_at at bs from n → n ≡ length xs
+    → ((r : R) → P r → r ≡ at bs (from + i * 4)) → (o : Option R) → is_some o ≡ ltb i n → IfSome o P → o ≡ slice_get xs i
+read_record at bs from n i xs e k h None b q = sym (slice_get_past xs i (let l = ltb-false i n (sym b) in omega arith))
+read_record at bs from n i xs e k h (Some r) b q = ap Some (h r q) ∙ sym (one_record at bs from n i xs e (ltb-true i n (sym b)))
 
 -- an absent place has no moves
 pub no_moves : (l : Line) (p m : ℕ) → length l.places ≤ p → slice_get (moves_of l p) m ≡ None
