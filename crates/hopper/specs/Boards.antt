@@ -1,14 +1,27 @@
 -- What a board answers of a place.
-use Rattle.std.specs.Prelude.{ℕ, length, Some, None, Option}
+use Rattle.std.specs.Prelude.{ℕ, Bool, true, false, length, Some, None, Option}
 use Rattle.std.specs.List.{slice_get}
 use Rattle.game.specs.declared.Edge.{Edge}
 use Rattle.game.specs.declared.Owner.{Owner}
+use Rattle.game.specs.declared.Owner.TheVariants.{Ours, Theirs}
 use Rattle.game.specs.Game.{Place}
 
 -- who chooses at what stands at a place number, None where there is no place
 abbrev pub owner_at : Option Place → Option Owner
 owner_at None = None
 owner_at (Some q) = Some q.owner
+
+-- it is we who choose
+abbrev pub is_ours : Option Owner → Bool
+is_ours None = false
+is_ours (Some Ours) = true
+is_ours (Some Theirs) = false
+
+-- it is the other side that chooses
+abbrev pub is_theirs : Option Owner → Bool
+is_theirs None = false
+is_theirs (Some Ours) = false
+is_theirs (Some Theirs) = true
 
 -- how many moves what stands at a place number has, None where there is no place
 abbrev pub moves_at : Option Place → Option ℕ

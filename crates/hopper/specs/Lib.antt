@@ -1,7 +1,6 @@
 -- The definitions of this crate.
 pub mod Faults
 pub mod Refusing
-pub mod Accepting
 pub mod Texts
 pub mod Boards
 pub mod Making

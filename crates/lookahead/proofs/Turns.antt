@@ -32,7 +32,7 @@ use Rattle.lookahead.specs.declared.Question.{Question}
 use Rattle.lookahead.specs.declared.Remembered.{Remembered}
 use Rattle.lookahead.specs.Ordered.{is_ordered}
 use Rattle.lookahead.specs.Remembering.{game_in, top_in, table_in, HoldsIn, Held, HoldsHigher, Settles}
-use Rattle.lookahead.specs.Asking.{is_ours, Leads, Refused, SomeLeads, LeadsOn}
+use Rattle.lookahead.specs.Asking.{we_choose, Leads, Refused, SomeLeads, LeadsOn}
 
 -- a test that answers true decides what holds, one that answers false what does not
 pub decides_yes : {P : Type 0} (b : Bool) → b ≡ true → P → Decides b P
@@ -170,7 +170,7 @@ module _ (o : Outlook) (q : Question) (pos : 1 ≤ q.moves) where
 
   -- where we choose a move that leads on settles the question, where they do one that does not
   pub one_settles : (own : Owner) → owner_at ((game_in o).at q.place) ≡ Some own → (m : ℕ) → m < count_at ((game_in o).at q.place)
-      → Decides (is_ours own) (LeadsOn o q m) → Decides (is_ours own) (Held o q)
+      → Decides (we_choose own) (LeadsOn o q m) → Decides (we_choose own) (Held o q)
   one_settles Ours is m lt d = decides_yes true refl (some_leads is m (d.0 refl))
   one_settles Theirs is m lt d = decides_no false refl (λ h. false≢true (d.1 (every_out is h m lt)))
 
@@ -195,7 +195,7 @@ leads_on_there o q m n l b h = Decides-like b
 
 -- a question that some move leads to settles the one that it comes from by the same answer
 pub led_settles : (o : Outlook) (q : Question) → 1 ≤ q.moves → (own : Owner) → owner_at ((game_in o).at q.place) ≡ Some own → (n : Question) → SomeLeads o q n
-    → Decides (is_ours own) (Held o n) → Decides (is_ours own) (Held o q)
+    → Decides (we_choose own) (Held o n) → Decides (we_choose own) (Held o q)
 led_settles o q pos own is n led d =
     let l = led.1 in
-    one_settles o q pos own is led.0 (step_below ((game_in o).at q.place) led.0 l.edge l.is) (leads_on_there o q led.0 n l (is_ours own) d)
+    one_settles o q pos own is led.0 (step_below ((game_in o).at q.place) led.0 l.edge l.is) (leads_on_there o q led.0 n l (we_choose own) d)

@@ -9,9 +9,9 @@ use Rattle.lookahead.specs.declared.Question.{Question}
 use Rattle.lookahead.specs.Remembering.{game_in, table_in, HoldsIn, OnBoard}
 
 -- whether we choose
-abbrev pub is_ours : Owner → Bool
-is_ours Ours = true
-is_ours Theirs = false
+abbrev pub we_choose : Owner → Bool
+we_choose Ours = true
+we_choose Theirs = false
 
 -- move m of the question's place leads to the next question, which is on the board and about one move fewer
 pub record Leads (o : Outlook) (q : Question) (m : ℕ) (n : Question) : Type 0 where

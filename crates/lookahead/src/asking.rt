@@ -4,7 +4,7 @@ ghost use Rattle.std.specs.List.{All};
 ghost use Rattle.game.specs.declared.Owner.TheVariants.{Ours, Theirs};
 ghost use Rattle.hopper.specs.Boards.{owner_at, count_at};
 ghost use Rattle.lookahead.specs.Remembering.{game_in, OnBoard, Held};
-ghost use Rattle.lookahead.specs.Asking.{is_ours, Leads, Refused, SomeLeads, LeadsOn};
+ghost use Rattle.lookahead.specs.Asking.{we_choose, Leads, Refused, SomeLeads, LeadsOn};
 
 use super::remembering::is_ordered;
 use super::{Memory, Outlook, Question, Turn};
@@ -13,8 +13,8 @@ use hopper::limits::MOST_AMOUNT;
 use hopper::{AnyVessel, Board, Vessel};
 
 // Whether we choose. Then a move that leads on settles a question, and otherwise one that does not.
-fn is_ours(owner: Owner) -> bool
-    ensures { result ≡ is_ours owner }
+fn we_choose(owner: Owner) -> bool
+    ensures { result ≡ we_choose owner }
 {
     owner == Owner::Ours
 }
@@ -26,7 +26,7 @@ impl Question {
         ensures { (result ≡ self) ⊎ (first ≡ Some result) }
     {
         match first {
-            Some(first) if (first.level > self.level) == is_ours(owner) => first,
+            Some(first) if (first.level > self.level) == we_choose(owner) => first,
             _ => self,
         }
     }
@@ -90,7 +90,7 @@ impl<'x> Memory<'x> {
     #[cycle(asking)]
     fn is_settled_first(&mut self, turn: Turn, owner: Owner) -> bool
         requires { owner_at ((game_in self.old.outlook).at turn.question.place) ≡ Some owner }
-        ensures answer { result ≡ true → Decides (is_ours owner) (Held self.old.outlook turn.question) }
+        ensures answer { result ≡ true → Decides (we_choose owner) (Held self.old.outlook turn.question) }
         ensures same { self.new.outlook ≡ self.old.outlook }
     {
         if turn.question.moves < 2 || self.known.is_empty() || !is_ordered(self.outlook.vessel) {
@@ -98,7 +98,7 @@ impl<'x> Memory<'x> {
         }
         for first in self.outlook.first_questions(turn, owner) {
             if let Some(next) = first
-                && self.holds(next) == is_ours(owner)
+                && self.holds(next) == we_choose(owner)
             {
                 return true;
             }

@@ -1,7 +1,6 @@
 // The look-ahead: its checks, the memory that it takes, and its answer.
-ghost use Rattle.std.specs.Prelude.{◌≡◌, ◌<◌, ◌≤◌, Ok, Decides};
+ghost use Rattle.std.specs.Prelude.{◌≡◌, ◌<◌, ◌≤◌, Ok, Decides, IfOk};
 ghost use Rattle.game.specs.Fill.{Holds};
-ghost use Rattle.hopper.specs.Accepting.{Accepted};
 ghost use Rattle.hopper.specs.Refusing.{verdict};
 ghost use Rattle.lineformat.specs.Games.{game_of, table_of};
 ghost use Rattle.linefile.specs.Held.{held};
@@ -105,7 +104,7 @@ pub fn look_ahead(
     k: u32,
 ) -> Result<bool, Fault>
     ensures answer { LookAnswers (held line.now) place fill k result }
-    ensures prevails { Accepted (TellsWhoPrevails (held line.now) place fill k) result }
+    ensures prevails { IfOk result (TellsWhoPrevails (held line.now) place fill k) }
 {
     check_question(line, place, fill, k)?;
     Ok(looked(heap, line, place, fill, k))

@@ -18,17 +18,16 @@ use Rattle.hopper.specs.declared.Fault.{Fault}
 use Rattle.hopper.specs.declared.Layer.TheVariants.{Rest}
 use Rattle.hopper.specs.declared.Refusal.{Refusal}
 use Rattle.hopper.specs.declared.Refusal.TheVariants.{MarksTooShort, NoSuchMove, NotOnBoard, NotTheOpenOrder, OrderStillOpen, PlaceIsOurs, PlaceIsTheirs}
-use Rattle.hopper.specs.Boards.{owner_at, step_at}
+use Rattle.hopper.specs.Boards.{owner_at, step_at, is_ours, is_theirs}
 use Rattle.hopper.specs.Refusing.{verdict}
 use Rattle.hopper.proofs.Boards.{step_place, step_inside}
 use Rattle.hopper.proofs.Refusing.{none_fails, untrue}
 use Rattle.solver.specs.Entries.{never}
 use Rattle.solver.specs.Marking.{GoodWhereNever}
-use Rattle.solver.specs.Planning.{is_theirs}
 use Rattle.shift.specs.declared.Order.{Order}
 use Rattle.shift.specs.declared.Shift.{Shift}
 use Rattle.shift.specs.Good.{is_good, is_good_pour, pours_good, moves_of, has_good_move, FirstGoodMove}
-use Rattle.shift.specs.Checks.{is_ours, names, poured_to, order_checks, done_checks, withdrawn_checks, arrived_checks}
+use Rattle.shift.specs.Checks.{names, poured_to, order_checks, done_checks, withdrawn_checks, arrived_checks}
 use Rattle.shift.specs.Answers.{moved_to, moved}
 use Rattle.shift.specs.History.{Event, Ordered, Done, Withdrawn, Arrived, refused_with, move_made, moves_made, Happens, History}
 use Rattle.shift.specs.Fate.{Harmless, Served}

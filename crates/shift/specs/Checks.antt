@@ -1,8 +1,6 @@
 -- The checks of a shift's calls, and the table of them that each call has.
 use Rattle.std.specs.Prelude.{ℕ, ◌+◌, Bool, true, false, not, ◌&&◌, ◌||◌, List, [], ◌∷◌, length, is_some, Some, None, Option, ◌==◌, nat_le, nat_lt}
 use Rattle.game.specs.declared.Edge.{Edge}
-use Rattle.game.specs.declared.Owner.{Owner}
-use Rattle.game.specs.declared.Owner.TheVariants.{Ours, Theirs}
 use Rattle.game.specs.Forced.{spill}
 use Rattle.game.specs.Game.{Game}
 use Rattle.game.specs.Limits.{most_fills}
@@ -24,17 +22,10 @@ use Rattle.hopper.specs.declared.Refusal.TheVariants.{
   PlaceIsOurs,
   NoSuchMove,
 }
-use Rattle.hopper.specs.Boards.{owner_at, step_at}
-use Rattle.solver.specs.Planning.{is_theirs}
+use Rattle.hopper.specs.Boards.{owner_at, is_ours, is_theirs, step_at}
 use Rattle.shift.specs.declared.Order.{Order}
 use Rattle.shift.specs.declared.Shift.{Shift}
 use Rattle.shift.specs.Good.{is_good, has_good_move}
-
--- the place is ours
-abbrev pub is_ours : Option Owner → Bool
-is_ours None = false
-is_ours (Some Ours) = true
-is_ours (Some Theirs) = false
 
 -- the order names this shift, its place and the move that is open
 abbrev pub names : Shift → Order → Option ℕ → Bool

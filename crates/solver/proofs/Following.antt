@@ -18,14 +18,14 @@ use Rattle.hopper.specs.Faults.{Check, check, fault}
 use Rattle.hopper.specs.declared.Fault.{Fault}
 use Rattle.hopper.specs.declared.Layer.TheVariants.{Rest}
 use Rattle.hopper.specs.declared.Refusal.TheVariants.{NoSuchPlace, RowTooShort, PlanAtTheirs, NoMoveServes}
-use Rattle.hopper.specs.Boards.{owner_at, step_at, count_at}
+use Rattle.hopper.specs.Boards.{owner_at, step_at, count_at, is_theirs}
 use Rattle.hopper.specs.Refusing.{verdict}
 use Rattle.hopper.proofs.Refusing.{second_decides}
 use Rattle.hopper.proofs.Boards.{step_at_lem, step_below, step_inside, owner_some, owned}
 use Rattle.solver.specs.Entries.{never, entries}
 use Rattle.solver.specs.Least.{GoodFrom}
 use Rattle.solver.specs.RowSteps.{Enough, Serves, NeededFor, NeedsMore, NeedsAtMost, FirstServing}
-use Rattle.solver.specs.Planning.{is_theirs, NeedsNoMore, Planned, PlanAnswers, AnswersWhereGood, FollowsPlan, PlannedRunsArePoured}
+use Rattle.solver.specs.Planning.{NeedsNoMore, Planned, PlanAnswers, AnswersWhereGood, FollowsPlan, PlannedRunsArePoured}
 use Rattle.solver.proofs.Entries.{entry_small, entry_back}
 use Rattle.solver.proofs.Parting.{parts_need}
 

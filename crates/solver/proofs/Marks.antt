@@ -1,5 +1,5 @@
 -- The forced marks of the unfolded board are the marks of the fills, and those tell their fates.
-use Rattle.std.proofs.Common.{◌≡◌, ℕ, zero, suc, ◌+◌, ◌*◌, ◌<◌, ◌≤◌, ltb, leb, ◌↔◌, List, [], ◌∷◌, length, get_or, pos, Some, None, Ok, Err, Option, Result, sym, refl, ap, ◌∙◌, subst, inl, inr, arith}
+use Rattle.std.proofs.Common.{◌≡◌, ℕ, zero, suc, ◌+◌, ◌*◌, ◌<◌, ◌≤◌, ltb, leb, ◌↔◌, List, [], ◌∷◌, length, get_or, pos, Some, None, Ok, Err, Option, Result, sym, refl, ap, ◌∙◌, subst, inl, inr, arith, IfOk}
 use native.Mathlib.Decide.{dec_le, ℕ_discrete}
 use Rattle.std.proofs.lemmas.Int.{ints}
 use Rattle.std.proofs.lemmas.Bool.{lt-leb, le-ltb}
@@ -20,7 +20,6 @@ use Rattle.game.proofs.Weights.{lip_is_lower_weak_upper_bound, closed_is_interva
 use Rattle.hopper.specs.declared.Fault.{Fault}
 use Rattle.hopper.specs.declared.Layer.TheVariants.{Rest}
 use Rattle.hopper.specs.declared.Refusal.TheVariants.{NoSuchPlace, TooManyFills, MarksTooShort}
-use Rattle.hopper.specs.Accepting.{Accepted}
 use Rattle.hopper.specs.Faults.{Check, check, fault}
 use Rattle.hopper.specs.Refusing.{verdict}
 use Rattle.hopper.proofs.Refusing.{skipped}
@@ -31,7 +30,7 @@ use Rattle.solver.proofs.Entries.{entry_back, entry_number}
 use Rattle.solver.proofs.Unfolds.{places_are, small_spill, number_of}
 
 -- what holds anyway holds of an accepted answer
-pub of_accepted : {A P : Type 0} (r : Result A Fault) → P → Accepted (λ _. P) r
+pub of_accepted : {A P : Type 0} (r : Result A Fault) → P → IfOk r (λ _. P)
 of_accepted (Ok a) p = p
 of_accepted (Err e) p = tt
 
@@ -111,7 +110,7 @@ module _ (g : Game) (wf : WellFormed g) (top : ℕ) (t : Table) (keeps : Keeps t
     mark_answers (Err e) a = (sym same_verdict ∙ a.0, a.1)
 
   module _ (old new : List ℕ) where
-    pub tells_fates : (r : Result ℕ Fault) → MarkAnswers g top t old new r → Accepted (λ _. TellsFates g top t new) r
+    pub tells_fates : (r : Result ℕ Fault) → MarkAnswers g top t old new r → IfOk r (λ _. TellsFates g top t new)
     tells_fates (Ok rounds) a = λ p c lt le. mark_tells_fate g wf top t keeps p c lt (entries new (cell top p c)) (a.1.exact p c lt le)
     tells_fates (Err e) a = tt
 
@@ -124,18 +123,18 @@ module _ (g : Game) (wf : WellFormed g) (top : ℕ) (t : Table) (keeps : Keeps t
             other_bad : ¬ (n ≡ never) → Good g t p c → ⊥
             other_bad other good = (subst (IsMark g t p c) (entry_number n other) m).0 (good n)
 
-    pub never_is_good : (r : Result ℕ Fault) → MarkAnswers g top t old new r → Accepted (λ _. GoodWhereNever g top t new) r
+    pub never_is_good : (r : Result ℕ Fault) → MarkAnswers g top t old new r → IfOk r (λ _. GoodWhereNever g top t new)
     never_is_good (Ok rounds) a = never_good rounds a.1
     never_is_good (Err e) a = tt
 
-    pub never_or_within : (r : Result ℕ Fault) → MarkAnswers g top t old new r → Accepted (NeverOrWithin g top new) r
+    pub never_or_within : (r : Result ℕ Fault) → MarkAnswers g top t old new r → IfOk r (NeverOrWithin g top new)
     never_or_within (Ok rounds) a = λ p c lt le.
         let n = get_or new (cell top p c) 0 in
         let below = number_of g top t p c lt le in
         elim (ℕ_discrete n never) [ yes e ↦ inl e | no other ↦ inr (a.1.largest.most (cell top p c) n (omega arith) (entry_number n other)) ]
     never_or_within (Err e) a = tt
 
-    pub bad_is_forced_within : (r : Result ℕ Fault) → MarkAnswers g top t old new r → Accepted (BadIsForcedWithin g top t) r
+    pub bad_is_forced_within : (r : Result ℕ Fault) → MarkAnswers g top t old new r → IfOk r (BadIsForcedWithin g top t)
     bad_is_forced_within (Ok rounds) a = λ p c lt bad. elim (dec_le c top) [
       | yes le ↦ go p c lt le bad (entries new (cell top p c)) refl
       | no n ↦ (let m = one_above_top p c lt (omega arith) in (1, m.0, m.1, λ le. absurd (n le)))
@@ -154,14 +153,14 @@ module _ (g : Game) (wf : WellFormed g) (top : ℕ) (t : Table) (keeps : Keeps t
     chain : {A B C : Type 0} → (A ↔ B) → (B ↔ C) → A ↔ C
     chain f h = (λ a. h.0 (f.0 a), λ c. f.1 (h.1 c))
 
-    pub never_wins_lower_weak_upper_bound : (r : Result ℕ Fault) → MarkAnswers g top t old new r → Accepted (λ _. WinsLowerWeakUpperBoundWhereNever g top t new) r
+    pub never_wins_lower_weak_upper_bound : (r : Result ℕ Fault) → MarkAnswers g top t old new r → IfOk r (λ _. WinsLowerWeakUpperBoundWhereNever g top t new)
     never_wins_lower_weak_upper_bound (Ok rounds) a = λ b is p c lt le.
         let c≤ : c ≤ top = lip_below_top g top t keeps b is c le in
         chain (never_good rounds a.1 p c lt (omega arith))
         (subst (λ (u : Table). Good g u p c ↔ LowerWeakUpperBound g b p c) (sym is) (lip_is_lower_weak_upper_bound g wf b p c lt le))
     never_wins_lower_weak_upper_bound (Err e) a = tt
 
-    pub never_wins_interval_bound : (r : Result ℕ Fault) → MarkAnswers g top t old new r → Accepted (λ _. WinsIntervalBoundWhereNever g top t new) r
+    pub never_wins_interval_bound : (r : Result ℕ Fault) → MarkAnswers g top t old new r → IfOk r (λ _. WinsIntervalBoundWhereNever g top t new)
     never_wins_interval_bound (Ok rounds) a = λ b is p c lt le.
         let c≤ : c ≤ top = closed_below_top g top t keeps b is c le in
         chain (never_good rounds a.1 p c lt (omega arith))

@@ -12,17 +12,11 @@ use Rattle.hopper.specs.Faults.{Check, check}
 use Rattle.hopper.specs.declared.Fault.{Fault}
 use Rattle.hopper.specs.declared.Layer.TheVariants.{Rest}
 use Rattle.hopper.specs.declared.Refusal.TheVariants.{NoSuchPlace, RowTooShort, PlanAtTheirs, NoMoveServes}
-use Rattle.hopper.specs.Boards.{owner_at, step_at}
+use Rattle.hopper.specs.Boards.{owner_at, is_theirs, step_at}
 use Rattle.hopper.specs.Refusing.{verdict}
 use Rattle.solver.specs.Entries.{never, entries}
 use Rattle.solver.specs.Least.{GoodFrom}
 use Rattle.solver.specs.RowSteps.{Enough}
-
--- the place is theirs
-abbrev pub is_theirs : Option Owner → Bool
-is_theirs None = false
-is_theirs (Some Ours) = false
-is_theirs (Some Theirs) = true
 
 -- the place is there, the row has an entry for each place, the place is ours, and some move serves: the last of them fails where `unserved` says so
 abbrev pub plan_checks : Game → ℕ → ℕ → Bool → List Check

@@ -1,8 +1,7 @@
 // How long each fill holds.
-ghost use Rattle.std.specs.Prelude.{◌≡◌, ◌+◌, min};
+ghost use Rattle.std.specs.Prelude.{◌≡◌, ◌+◌, min, IfOk};
 ghost use Rattle.game.specs.Forced.{spill};
 ghost use Rattle.game.specs.Limits.{most_fills};
-ghost use Rattle.hopper.specs.Accepting.{Accepted};
 ghost use Rattle.solver.specs.Marking.{MarkAnswers, TellsFates, GoodWhereNever, NeverOrWithin, BadIsForcedWithin, OneAboveTop, EachFillHasFate, WinsLowerWeakUpperBoundWhereNever, WinsIntervalBoundWhereNever};
 
 use super::forcing::forced;
@@ -26,14 +25,14 @@ pub fn mark<'x, B: Board, V: Vessel>(
     marks: &mut [u32],
 ) -> Result<u32, Fault>
     ensures answer { MarkAnswers (B.Board.game board.now) (V.Vessel.top vessel.now) (V.Vessel.table vessel.now) marks.old marks.new result }
-    ensures fates { Accepted (λ _. TellsFates (B.Board.game board.now) (V.Vessel.top vessel.now) (V.Vessel.table vessel.now) marks.new) result }
-    ensures good { Accepted (λ _. GoodWhereNever (B.Board.game board.now) (V.Vessel.top vessel.now) (V.Vessel.table vessel.now) marks.new) result }
-    ensures bounded { Accepted (NeverOrWithin (B.Board.game board.now) (V.Vessel.top vessel.now) marks.new) result }
-    ensures bad { Accepted (BadIsForcedWithin (B.Board.game board.now) (V.Vessel.top vessel.now) (V.Vessel.table vessel.now)) result }
-    ensures lip { Accepted (λ _. WinsLowerWeakUpperBoundWhereNever (B.Board.game board.now) (V.Vessel.top vessel.now) (V.Vessel.table vessel.now) marks.new) result }
-    ensures closed { Accepted (λ _. WinsIntervalBoundWhereNever (B.Board.game board.now) (V.Vessel.top vessel.now) (V.Vessel.table vessel.now) marks.new) result }
-    ensures above { Accepted (λ _. OneAboveTop (B.Board.game board.now) (V.Vessel.top vessel.now) (V.Vessel.table vessel.now)) result }
-    ensures each { Accepted (λ _. EachFillHasFate (B.Board.game board.now) (V.Vessel.top vessel.now) (V.Vessel.table vessel.now)) result }
+    ensures fates { IfOk result (λ _. TellsFates (B.Board.game board.now) (V.Vessel.top vessel.now) (V.Vessel.table vessel.now) marks.new) }
+    ensures good { IfOk result (λ _. GoodWhereNever (B.Board.game board.now) (V.Vessel.top vessel.now) (V.Vessel.table vessel.now) marks.new) }
+    ensures bounded { IfOk result (NeverOrWithin (B.Board.game board.now) (V.Vessel.top vessel.now) marks.new) }
+    ensures bad { IfOk result (BadIsForcedWithin (B.Board.game board.now) (V.Vessel.top vessel.now) (V.Vessel.table vessel.now)) }
+    ensures lip { IfOk result (λ _. WinsLowerWeakUpperBoundWhereNever (B.Board.game board.now) (V.Vessel.top vessel.now) (V.Vessel.table vessel.now) marks.new) }
+    ensures closed { IfOk result (λ _. WinsIntervalBoundWhereNever (B.Board.game board.now) (V.Vessel.top vessel.now) (V.Vessel.table vessel.now) marks.new) }
+    ensures above { IfOk result (λ _. OneAboveTop (B.Board.game board.now) (V.Vessel.top vessel.now) (V.Vessel.table vessel.now)) }
+    ensures each { IfOk result (λ _. EachFillHasFate (B.Board.game board.now) (V.Vessel.top vessel.now) (V.Vessel.table vessel.now)) }
 {
     let top = vessel.top();
     let count = fills(board, vessel);

@@ -1,6 +1,5 @@
 // The least fills that hold, row by row.
-ghost use Rattle.std.specs.Prelude.{◌≤◌, length};
-ghost use Rattle.hopper.specs.Accepting.{Accepted};
+ghost use Rattle.std.specs.Prelude.{◌≤◌, length, IfOk};
 ghost use Rattle.solver.specs.Least.{LeastAnswers, HoldsLeastGood, GoodFrom, WinsLowerWeakUpperBoundFrom, HoldsLeastWithoutLip, HoldsLeastLowerBound, NeverGivesUp};
 ghost use Rattle.solver.specs.RowSteps.{NextRow};
 
@@ -33,11 +32,11 @@ pub fn least<B: Board, V: Graded>(
     budget: u64,
 ) -> Result<u64, Fault>
     ensures answer { LeastAnswers (B.Board.game board.now) (V.Vessel.top vessel.now) (V.Vessel.table vessel.now) row.old row.new next.old next.new budget result }
-    ensures good { Accepted (λ _. HoldsLeastGood (B.Board.game board.now) (V.Vessel.table vessel.now) row.new) result }
-    ensures parted { Accepted (λ _. GoodFrom (B.Board.game board.now) (V.Vessel.top vessel.now) (V.Vessel.table vessel.now) row.new) result }
-    ensures lip { Accepted (λ _. WinsLowerWeakUpperBoundFrom (B.Board.game board.now) (V.Vessel.table vessel.now) row.new) result }
-    ensures lipless { Accepted (λ _. HoldsLeastWithoutLip (B.Board.game board.now) (V.Vessel.table vessel.now) row.new) result }
-    ensures lower { Accepted (λ _. HoldsLeastLowerBound (B.Board.game board.now) (V.Vessel.table vessel.now) row.new) result }
+    ensures good { IfOk result (λ _. HoldsLeastGood (B.Board.game board.now) (V.Vessel.table vessel.now) row.new) }
+    ensures parted { IfOk result (λ _. GoodFrom (B.Board.game board.now) (V.Vessel.top vessel.now) (V.Vessel.table vessel.now) row.new) }
+    ensures lip { IfOk result (λ _. WinsLowerWeakUpperBoundFrom (B.Board.game board.now) (V.Vessel.table vessel.now) row.new) }
+    ensures lipless { IfOk result (λ _. HoldsLeastWithoutLip (B.Board.game board.now) (V.Vessel.table vessel.now) row.new) }
+    ensures lower { IfOk result (λ _. HoldsLeastLowerBound (B.Board.game board.now) (V.Vessel.table vessel.now) row.new) }
     ensures soon { NeverGivesUp (B.Board.game board.now) (V.Vessel.top vessel.now) budget result }
 {
     let places = board.places();

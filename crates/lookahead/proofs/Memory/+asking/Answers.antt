@@ -17,7 +17,7 @@ is_settled_first-returns-in-loop-first-clause-answer t c = λ _.
     let firsts = c.first_questions-first-items in
     let led : SomeLeads o q n = some_at (SomeLeads o q) firsts.result c.loop-first.first-index n c.in-Some.is firsts.ensures in
     let held = subst (λ (x : Outlook). Decides c.holds.result (Held x n)) c.loop-first.invariant c.holds.ensures.answer in
-    led_settles o q c.args.turn.some_move c.args.owner c.requires n led (subst (λ (b : Bool). Decides b (Held o n)) c.is_ours.ensures (decides_same c.holds.result c.is_ours.result c.if-holds-is_ours.true held))
+    led_settles o q c.args.turn.some_move c.args.owner c.requires n led (subst (λ (b : Bool). Decides b (Held o n)) c.we_choose.ensures (decides_same c.holds.result c.we_choose.result c.if-holds-we_choose.true held))
 
 pub some_move-returns-then-leads_on-clause-answer : goal.some_move-returns-then-leads_on-clause-answer
 some_move-returns-then-leads_on-clause-answer t c =
