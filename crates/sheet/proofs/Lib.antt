@@ -1,2 +1,3 @@
 -- The proofs of this crate that others cite.
 mod Leasts
+mod Orders

@@ -1,8 +1,10 @@
 -- The least good fill of a place and the move ordered there, read off marks.
-use Rattle.std.specs.Prelude.{◌≡◌, ℕ, ◌+◌, ◌<◌, Bool, true, false, ◌&&◌, List, Some, None, Ok, Option}
+use Rattle.std.specs.Prelude.{◌≡◌, ℕ, ◌+◌, ◌<◌, Bool, true, false, ◌&&◌, List, Some, None, Ok, Option, IsSome}
+use Rattle.game.specs.declared.Owner.TheVariants.{Ours}
 use Rattle.game.specs.Game.{Game, WellFormed}
 use Rattle.game.specs.Vessel.{Table, Keeps}
-use Rattle.game.specs.Fill.{LeastGood}
+use Rattle.game.specs.Fill.{Good, LeastGood}
+use Rattle.hopper.specs.Boards.{owner_at}
 use Rattle.hopper.specs.Refusing.{passes}
 use Rattle.lineformat.specs.Checks.{first_from}
 use Rattle.solver.specs.Marking.{MarkAnswers}
@@ -32,3 +34,9 @@ is_ordered g top t marks p c = passes (open_checks g top marks p c) && passes (o
 abbrev pub OrderedMove : Game → ℕ → Table → List ℕ → ℕ → ℕ → Option ℕ → Type 0
 OrderedMove g top t marks p c None = is_ordered g top t marks p c ≡ false
 OrderedMove g top t marks p c (Some m) = (is_ordered g top t marks p c ≡ true) × FirstGoodMove top t marks c (g.at p) m
+
+-- on marks that an accepted `mark` wrote a move is ordered at each good fill of a place of ours
+abbrev pub OrderedWhereGood : Game → ℕ → Table → List ℕ → ℕ → ℕ → Option ℕ → Type 0
+OrderedWhereGood g top t marks p c r =
+    (old : List ℕ) (rounds : ℕ) → MarkAnswers g top t old marks (Ok rounds)
+    → owner_at (g.at p) ≡ Some Ours → Good g t p c → IsSome r

@@ -1,6 +1,6 @@
 // What a plan sheet says of a place over marks: its least good fill, and the move that an order gives out there.
 ghost use Rattle.std.specs.Prelude.{◌≡◌};
-ghost use Rattle.sheet.specs.Fills.{least_marked_good, LeastGoodByMarks, OrderedMove};
+ghost use Rattle.sheet.specs.Fills.{least_marked_good, LeastGoodByMarks, OrderedMove, OrderedWhereGood};
 
 use hopper::{Board, Vessel};
 use shift::{Shift, marked_good};
@@ -21,7 +21,8 @@ pub fn ordered_move<B: Board, V: Vessel>(
     place: u32,
     fill: u32,
 ) -> Option<u32>
-    ensures { OrderedMove (B.Board.game board.now) (V.Vessel.top vessel.now) (V.Vessel.table vessel.now) marks.now place fill result }
+    ensures ordered { OrderedMove (B.Board.game board.now) (V.Vessel.top vessel.now) (V.Vessel.table vessel.now) marks.now place fill result }
+    ensures good { OrderedWhereGood (B.Board.game board.now) (V.Vessel.top vessel.now) (V.Vessel.table vessel.now) marks.now place fill result }
 {
     let mut shift = Shift::open(0, board, vessel, marks, place, fill).ok()?;
     let order = shift.order(board, vessel, marks).ok()?;

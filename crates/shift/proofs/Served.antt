@@ -102,7 +102,7 @@ module _ (g : Game) (wf : WellFormed g) (top : ℕ) (t : Table) (keeps : Keeps t
       (subst (λ (o : Owner). Choice o w.0.moves (Through t (Good g t) c)) own w.2)
 
   -- so an order lacks no good move
-  not_lacking : (p c : ℕ) → Good g t p c → is_theirs (owner_at (g.at p)) ≡ false → has_good_move top t marks c (g.at p) ≡ false → ⊥
+  pub not_lacking : (p c : ℕ) → Good g t p c → is_theirs (owner_at (g.at p)) ≡ false → has_good_move top t marks c (g.at p) ≡ false → ⊥
   not_lacking p c good ours none =
       let w = ours_leads p c good ours in
       let is : step_at (g.at p) w.0 ≡ Some w.1 = step_is (g.at p) w.0 ∙ w.2 in

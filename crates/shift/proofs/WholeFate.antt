@@ -1,6 +1,7 @@
 -- A starting fill tells the whole fate.
-use Rattle.std.proofs.Common.{◌≡◌, ℕ, ◌+◌, ◌*◌, ◌<◌, ◌≤◌, Bool, true, false, ltb, List, [], ◌∷◌, length, is_ok, Some, None, Ok, Err, Option, Result, refl, ap, ◌∙◌, subst, arith}
-use Rattle.std.proofs.lemmas.Bool.{leb-false, ltb-false, lt-leb, le-ltb, not-false, not_from_true}
+use Rattle.std.proofs.Common.{◌≡◌, ℕ, ◌+◌, ◌*◌, ◌<◌, ◌≤◌, Bool, true, false, ltb, leb, List, [], ◌∷◌, length, is_ok, Some, None, Ok, Err, Option, Result, refl, ap, ◌∙◌, subst, ⊎_elim, arith}
+use Rattle.std.proofs.lemmas.Bool.{leb-false, ltb-false, lt-leb, le-ltb, not-false, not_from_true, or_from, cases_Bool}
+use Rattle.game.specs.declared.Owner.TheVariants.{Ours}
 use Rattle.game.specs.Game.{Game, WellFormed}
 use Rattle.game.specs.Vessel.{Table, Keeps}
 use Rattle.game.specs.Fill.{Good, IsMark, LeastGood}
@@ -14,7 +15,9 @@ use Rattle.hopper.specs.declared.Fault.{Fault}
 use Rattle.hopper.specs.declared.Layer.TheVariants.{Rest}
 use Rattle.hopper.specs.declared.Refusal.TheVariants.{RowTooShort, RowsKeepChanging}
 use Rattle.hopper.specs.Faults.{check, fault, refusal_number}
-use Rattle.hopper.specs.Refusing.{verdict}
+use Rattle.hopper.specs.Boards.{owner_at, is_theirs}
+use Rattle.hopper.specs.Refusing.{verdict, passes}
+use Rattle.hopper.proofs.Boards.{owner_some}
 use Rattle.hopper.proofs.Refusing.{none_fails, all_pass, untrue, untrue_passes, passes_is}
 use Rattle.solver.specs.Entries.{entries}
 use Rattle.solver.specs.Least.{too_short, StillChanging, LeastAnswers, HoldsLeastGood, NeverGivesUp}
@@ -22,13 +25,13 @@ use Rattle.solver.specs.Marking.{mark_checks, MarkAnswers, GoodWhereNever}
 use Rattle.solver.proofs.Marks.{never_is_good, bad_is_forced_within, each_fill_has_fate}
 use Rattle.solver.proofs.RowByRow.{some_repeats}
 use Rattle.shift.specs.declared.Shift.{Shift}
-use Rattle.shift.specs.Good.{is_good}
-use Rattle.shift.specs.Checks.{open_checks}
+use Rattle.shift.specs.Good.{is_good, has_good_move}
+use Rattle.shift.specs.Checks.{open_checks, order_checks}
 use Rattle.shift.specs.Answers.{OpenAnswers}
 use Rattle.shift.specs.History.{Event, History}
 use Rattle.shift.specs.Fate.{Served, WholeFate, StartingFillTellsTheWholeFate}
 use Rattle.shift.proofs.Answered.{each_answered}
-use Rattle.shift.proofs.Served.{called_good, good_called, served}
+use Rattle.shift.proofs.Served.{called_good, good_called, not_lacking, served}
 
 module _ (g : Game) (wf : WellFormed g) (top : ℕ) (t : Table) (keeps : Keeps top t) where
   good_start : (old marks : List ℕ) (rounds : ℕ) → MarkAnswers g top t old marks (Ok rounds)
@@ -44,20 +47,24 @@ module _ (g : Game) (wf : WellFormed g) (top : ℕ) (t : Table) (keeps : Keeps t
       (record { good = good; pending = tt })
       (subst (λ (x : Shift). History g top t marks x es s') opened.1 h)
 
+  -- an accepted `mark` had room for the fills and the spill
+  room : (old marks : List ℕ) (rounds : ℕ) → MarkAnswers g top t old marks (Ok rounds) → ltb (length marks) (g.places * (top + 1) + 1) ≡ false
+  room old marks rounds marked =
+      let passed = none_fails (mark_checks g top (length old)) (ap is_ok marked.0) in
+      ap (λ (n : ℕ). ltb n (g.places * (top + 1) + 1)) marked.1.kept.same_length ∙ untrue _ _ passed.1.0
+
   good_opens : (old marks : List ℕ) (rounds : ℕ) → MarkAnswers g top t old marks (Ok rounds)
       → (number p c : ℕ) → p < g.places → Good g t p c
       → OpenAnswers g top marks number p c (Ok (record { number = number; place = p; level = c; opened = None }))
   good_opens old marks rounds marked number p c lt good =
       let exact : GoodWhereNever g top t marks = never_is_good g wf top t keeps old marks (Ok rounds) marked in
       let passed = none_fails (mark_checks g top (length old)) (ap is_ok marked.0) in
-      let low : c ≤ top = good_level g wf top t keeps.above p c good in
-      let room : ltb (length marks) (g.places * (top + 1) + 1) ≡ false =
-      ap (λ (n : ℕ). ltb n (g.places * (top + 1) + 1)) marked.1.kept.same_length ∙ untrue _ _ passed.1.0 in (
+      let low : c ≤ top = good_level g wf top t keeps.above p c good in (
         passes_is (open_checks g top marks p c)
             (all_pass (open_checks g top marks p c) (
               passed.0,
               (
-                untrue_passes _ _ room,
+                untrue_passes _ _ (room old marks rounds marked),
                 (
                   untrue_passes _ _ (lt-leb g.places p lt),
                   (
@@ -68,6 +75,29 @@ module _ (g : Game) (wf : WellFormed g) (top : ℕ) (t : Table) (keeps : Keeps t
               ),
             )),
         refl,
+      )
+
+  -- and at a place of ours its order is given out
+  pub good_is_ordered : (old marks : List ℕ) (rounds : ℕ) → MarkAnswers g top t old marks (Ok rounds)
+      → (number p c : ℕ) → owner_at (g.at p) ≡ Some Ours → Good g t p c
+      → passes (order_checks g top t marks (record { number = number; place = p; level = c; opened = None })) ≡ true
+  good_is_ordered old marks rounds marked number p c ours good =
+      let exact : GoodWhereNever g top t marks = never_is_good g wf top t keeps old marks (Ok rounds) marked in
+      let s : Shift = record { number = number; place = p; level = c; opened = None } in
+      let lt : p < g.places = owner_some g wf p Ours ours in
+      let low : c ≤ top = good_level g wf top t keeps.above p c good in
+      let own : is_theirs (owner_at (g.at p)) ≡ false = ap is_theirs ours in
+      let some : has_good_move top t marks c (g.at p) ≡ true =
+      ⊎_elim (λ is. is) (λ none. absurd (not_lacking g wf top t keeps marks exact p c good own none)) (cases_Bool (has_good_move top t marks c (g.at p))) in
+      all_pass (order_checks g top t marks s) (
+        refl,
+        (
+          untrue_passes _ _ (or_from (leb g.places p) (ltb top c) (lt-leb g.places p lt) (le-ltb top c low)),
+          (
+            untrue_passes _ _ (room old marks rounds marked),
+            (untrue_passes _ _ own, (untrue_passes _ _ (not_from_true (has_good_move top t marks c (g.at p)) some), tt)),
+          ),
+        ),
       )
 
   abbrev ForcedFrom : ℕ → ℕ → Type 0
