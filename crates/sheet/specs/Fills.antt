@@ -8,7 +8,7 @@ use Rattle.hopper.specs.Boards.{owner_at}
 use Rattle.hopper.specs.Refusing.{passes}
 use Rattle.lineformat.specs.Checks.{first_from}
 use Rattle.solver.specs.Marking.{MarkAnswers}
-use Rattle.shift.specs.declared.Shift.{Shift}
+use Rattle.shift.specs.Answers.{opened_at}
 use Rattle.shift.specs.Checks.{open_checks, order_checks}
 use Rattle.shift.specs.Good.{is_good, FirstGoodMove}
 
@@ -22,13 +22,9 @@ LeastGoodByMarks top marks p r =
     (g : Game) → WellFormed g → (t : Table) → Keeps top t → (old : List ℕ) (rounds : ℕ) → MarkAnswers g top t old marks (Ok rounds)
     → p < g.places → LeastGood g t p r
 
--- a shift that was just opened at a place and a level
-abbrev pub opened_at : ℕ → ℕ → Shift
-opened_at p c = record { number = 0; place = p; level = c; opened = None }
-
 -- the shift opens there, and its order is not refused
 abbrev pub is_ordered : Game → ℕ → Table → List ℕ → ℕ → ℕ → Bool
-is_ordered g top t marks p c = passes (open_checks g top marks p c) && passes (order_checks g top t marks (opened_at p c))
+is_ordered g top t marks p c = passes (open_checks g top marks p c) && passes (order_checks g top t marks (opened_at 0 p c))
 
 -- the move ordered there: the first that is poured to a good level, and none just where the shift does not open or its order is refused
 abbrev pub OrderedMove : Game → ℕ → Table → List ℕ → ℕ → ℕ → Option ℕ → Type 0

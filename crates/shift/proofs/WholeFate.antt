@@ -27,7 +27,7 @@ use Rattle.solver.proofs.RowByRow.{some_repeats}
 use Rattle.shift.specs.declared.Shift.{Shift}
 use Rattle.shift.specs.Good.{is_good, has_good_move}
 use Rattle.shift.specs.Checks.{open_checks, order_checks}
-use Rattle.shift.specs.Answers.{OpenAnswers}
+use Rattle.shift.specs.Answers.{opened_at, OpenAnswers}
 use Rattle.shift.specs.History.{Event, History}
 use Rattle.shift.specs.Fate.{Served, WholeFate, StartingFillTellsTheWholeFate}
 use Rattle.shift.proofs.Answered.{each_answered}
@@ -43,7 +43,7 @@ module _ (g : Game) (wf : WellFormed g) (top : ℕ) (t : Table) (keeps : Keeps t
       let inside : p < g.places = leb-false g.places p (untrue _ _ passed.1.1.0) in
       let low : c ≤ top = ltb-false top c (untrue _ _ passed.1.1.1.0) in
       let good : Good g t p c = called_good g wf top t keeps marks exact p c inside low (not-false (is_good top marks p c) (untrue _ _ passed.1.1.1.1.0)) in
-      served g wf top t keeps marks exact es (record { number = number; place = p; level = c; opened = None }) s'
+      served g wf top t keeps marks exact es (opened_at number p c) s'
       (record { good = good; pending = tt })
       (subst (λ (x : Shift). History g top t marks x es s') opened.1 h)
 
@@ -55,7 +55,7 @@ module _ (g : Game) (wf : WellFormed g) (top : ℕ) (t : Table) (keeps : Keeps t
 
   good_opens : (old marks : List ℕ) (rounds : ℕ) → MarkAnswers g top t old marks (Ok rounds)
       → (number p c : ℕ) → p < g.places → Good g t p c
-      → OpenAnswers g top marks number p c (Ok (record { number = number; place = p; level = c; opened = None }))
+      → OpenAnswers g top marks number p c (Ok (opened_at number p c))
   good_opens old marks rounds marked number p c lt good =
       let exact : GoodWhereNever g top t marks = never_is_good g wf top t keeps old marks (Ok rounds) marked in
       let passed = none_fails (mark_checks g top (length old)) (ap is_ok marked.0) in
@@ -80,10 +80,10 @@ module _ (g : Game) (wf : WellFormed g) (top : ℕ) (t : Table) (keeps : Keeps t
   -- and at a place of ours its order is given out
   pub good_is_ordered : (old marks : List ℕ) (rounds : ℕ) → MarkAnswers g top t old marks (Ok rounds)
       → (number p c : ℕ) → owner_at (g.at p) ≡ Some Ours → Good g t p c
-      → passes (order_checks g top t marks (record { number = number; place = p; level = c; opened = None })) ≡ true
+      → passes (order_checks g top t marks (opened_at number p c)) ≡ true
   good_is_ordered old marks rounds marked number p c ours good =
       let exact : GoodWhereNever g top t marks = never_is_good g wf top t keeps old marks (Ok rounds) marked in
-      let s : Shift = record { number = number; place = p; level = c; opened = None } in
+      let s = opened_at number p c in
       let lt : p < g.places = owner_some g wf p Ours ours in
       let low : c ≤ top = good_level g wf top t keeps.above p c good in
       let own : is_theirs (owner_at (g.at p)) ≡ false = ap is_theirs ours in

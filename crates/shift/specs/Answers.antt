@@ -28,10 +28,14 @@ abbrev pub moved : Table → Shift → Option Edge → Shift
 moved t s None = s
 moved t s (Some e) = moved_to s e.target (t s.level e.amount)
 
--- open answers a shift that stands at place p and fill c, with no order open
+-- the shift of this number that was just opened at place p and fill c: no order is open
+abbrev pub opened_at : ℕ → ℕ → ℕ → Shift
+opened_at number p c = record { number = number; place = p; level = c; opened = None }
+
+-- open answers the shift that was just opened at place p and fill c
 abbrev pub OpenAnswers : Game → ℕ → List ℕ → ℕ → ℕ → ℕ → Result Shift Fault → Type 0
 OpenAnswers g top marks number p c =
-    Answers (open_checks g top marks p c) (λ s. s ≡ record { number = number; place = p; level = c; opened = None }) (Unit {0})
+    Answers (open_checks g top marks p c) (λ s. s ≡ opened_at number p c) (Unit {0})
 
 -- the order for move m of the shift's place
 abbrev pub order_for : Shift → ℕ → Order

@@ -1,5 +1,5 @@
 -- What a starting fill tells of all that can follow, over every board and every vessel.
-use Rattle.std.specs.Prelude.{◌≡◌, ℕ, ◌<◌, ◌≤◌, ◌↔◌, List, map, Some, None, Ok, Option, Result}
+use Rattle.std.specs.Prelude.{◌≡◌, ℕ, ◌<◌, ◌≤◌, ◌↔◌, List, map, Some, Ok, Option, Result}
 use Rattle.std.specs.List.{slice_get}
 use Rattle.game.specs.Game.{Game, WellFormed, drop_sum}
 use Rattle.game.specs.Vessel.{Table, Keeps, lip, unlimited}
@@ -11,7 +11,7 @@ use Rattle.hopper.specs.declared.Refusal.TheVariants.{NoGoodMove, VesselRefuses}
 use Rattle.solver.specs.Least.{LeastAnswers, HoldsLeastGood, NeverGivesUp}
 use Rattle.solver.specs.Marking.{MarkAnswers}
 use Rattle.shift.specs.declared.Shift.{Shift}
-use Rattle.shift.specs.Answers.{OpenAnswers}
+use Rattle.shift.specs.Answers.{opened_at, OpenAnswers}
 use Rattle.shift.specs.History.{Call, Event, call_of, refused_with, moves_made, History}
 
 -- the fault is neither that the vessel refused a move, nor that an order lacked a good one
@@ -31,7 +31,7 @@ pub record WholeFate (g : Game) (top : ℕ) (t : Table) : Type 0 where
   -- on marks that an accepted `mark` wrote, a shift is opened at every good fill
   pub good_start_is_opened : (old marks : List ℕ) (rounds : ℕ) → MarkAnswers g top t old marks (Ok rounds)
       → (number p c : ℕ) → p < g.places → Good g t p c
-      → OpenAnswers g top marks number p c (Ok (record { number = number; place = p; level = c; opened = None }))
+      → OpenAnswers g top marks number p c (Ok (opened_at number p c))
   -- and a shift that is opened on them is served in every history of calls
   pub good_start_is_served : (old marks : List ℕ) (rounds : ℕ) → MarkAnswers g top t old marks (Ok rounds)
       → (number p c : ℕ) (s : Shift) → OpenAnswers g top marks number p c (Ok s)
