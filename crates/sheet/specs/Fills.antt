@@ -22,14 +22,14 @@ LeastGoodByMarks top marks p r =
     (g : Game) → WellFormed g → (t : Table) → Keeps top t → (old : List ℕ) (rounds : ℕ) → MarkAnswers g top t old marks (Ok rounds)
     → p < g.places → LeastGood g t p r
 
--- the shift opens there, and its order is not refused
-abbrev pub is_ordered : Game → ℕ → Table → List ℕ → ℕ → ℕ → Bool
-is_ordered g top t marks p c = passes (open_checks g top marks p c) && passes (order_checks g top t marks (opened_at 0 p c))
+-- a shift opens at this place and fill, and its order is not refused
+abbrev pub gives_order : Game → ℕ → Table → List ℕ → ℕ → ℕ → Bool
+gives_order g top t marks p c = passes (open_checks g top marks p c) && passes (order_checks g top t marks (opened_at 0 p c))
 
 -- the move ordered there: the first that is poured to a good level, and none just where the shift does not open or its order is refused
 abbrev pub OrderedMove : Game → ℕ → Table → List ℕ → ℕ → ℕ → Option ℕ → Type 0
-OrderedMove g top t marks p c None = is_ordered g top t marks p c ≡ false
-OrderedMove g top t marks p c (Some m) = (is_ordered g top t marks p c ≡ true) × FirstGoodMove top t marks c (g.at p) m
+OrderedMove g top t marks p c None = gives_order g top t marks p c ≡ false
+OrderedMove g top t marks p c (Some m) = (gives_order g top t marks p c ≡ true) × FirstGoodMove top t marks c (g.at p) m
 
 -- on marks that an accepted `mark` wrote a move is ordered at each good fill of a place of ours
 abbrev pub OrderedWhereGood : Game → ℕ → Table → List ℕ → ℕ → ℕ → Option ℕ → Type 0

@@ -8,7 +8,7 @@ use Rattle.hopper.specs.Boards.{step_at}
 use Rattle.hopper.specs.Refusing.{verdict}
 use Rattle.hopper.proofs.Refusing.{none_fails, untrue}
 use Rattle.shift.specs.declared.Shift.{Shift}
-use Rattle.shift.specs.Good.{pours_good, moves_of, has_good_move, FirstGoodMove}
+use Rattle.shift.specs.Good.{pours_good, edges_at, has_good_move, FirstGoodMove}
 use Rattle.shift.specs.Checks.{order_checks, done_checks, withdrawn_checks, arrived_checks}
 use Rattle.shift.specs.Answers.{with_order, moved, order_for}
 use Rattle.shift.specs.History.{Call, AskOrder, ReportDone, ReportWithdrawn, ReportArrived, Event, Ordered, Done, Withdrawn, Arrived, call_of, Happens, History}
@@ -27,7 +27,7 @@ module _ (g : Game) (top : ℕ) (t : Table) (marks : List ℕ) where
           let passed = none_fails (order_checks g top t marks s) (ap is_ok is) in
           let at = g.at s.place in
           let test = pours_good top t marks s.level in
-          let w = first_there test (moves_of at) (not-false (has_good_move top t marks s.level at) (untrue _ _ passed.1.1.1.1.0)) in
+          let w = first_there test (edges_at at) (not-false (has_good_move top t marks s.level at) (untrue _ _ passed.1.1.1.1.0)) in
           let first : FirstGoodMove top t marks s.level at w.0 = record {
             move = w.1.0;
             is_move = step_is at w.0 ∙ w.1.1;

@@ -7,7 +7,7 @@ use Rattle.game.specs.Game.{Place}
 use Rattle.game.proofs.Base.{none_some, some_inj}
 use Rattle.hopper.specs.Boards.{step_at}
 use Rattle.hopper.proofs.Boards.{nth_below, nth_there}
-use Rattle.shift.specs.Good.{any_move, moves_of}
+use Rattle.shift.specs.Good.{any_move, edges_at}
 
 -- a test whether nothing is there
 pub none_there : {A : Type 0} (o : Option A) → not (is_some o) ≡ true → o ≡ None
@@ -19,7 +19,7 @@ some_there None is = absurd (true≢false is)
 some_there (Some x) is = (x, refl)
 
 -- a board's answer is one of the moves
-pub step_is : (at : Option Place) (m : ℕ) → step_at at m ≡ slice_get (moves_of at) m
+pub step_is : (at : Option Place) (m : ℕ) → step_at at m ≡ slice_get (edges_at at) m
 step_is None m = refl
 step_is (Some q) m = refl
 
@@ -67,15 +67,15 @@ module _ (test : Edge → Bool) where
         below_more (λ (k : ℕ). (y : Edge) → step_at at k ≡ Some y → test y ≡ false) m passed
         (λ y here. subst (λ (z : Edge). test z ≡ false) (some_inj (sym is ∙ here)) fails)
 
-    pub some_found : (m : ℕ) (e : Edge) → step_at at m ≡ Some e → test e ≡ true → any_move test (moves_of at) ≡ true
-    some_found m e is good = one_passes (moves_of at) m e (sym (step_is at m) ∙ is) good
+    pub some_found : (m : ℕ) (e : Edge) → step_at at m ≡ Some e → test e ≡ true → any_move test (edges_at at) ≡ true
+    some_found m e is good = one_passes (edges_at at) m e (sym (step_is at m) ∙ is) good
 
-    pub none_found : (m : ℕ) → Passed m → step_at at m ≡ None → any_move test (moves_of at) ≡ false
+    pub none_found : (m : ℕ) → Passed m → step_at at m ≡ None → any_move test (edges_at at) ≡ false
     none_found m passed none =
-        none_passes (moves_of at) (λ k e is. passed k (let lt = nth_below (moves_of at) k e is in omega (arith, past)) e (step_is at k ∙ is))
+        none_passes (edges_at at) (λ k e is. passed k (let lt = nth_below (edges_at at) k e is in omega (arith, past)) e (step_is at k ∙ is))
       where
-        past : length (moves_of at) ≤ m
-        past = elim (cases_lt m (length (moves_of at))) [
-          | inl lt ↦ absurd (nth_there (moves_of at) m lt (sym (step_is at m) ∙ none))
+        past : length (edges_at at) ≤ m
+        past = elim (cases_lt m (length (edges_at at))) [
+          | inl lt ↦ absurd (nth_there (edges_at at) m lt (sym (step_is at m) ∙ none))
           | inr le ↦ le
         ]

@@ -26,8 +26,8 @@ use Rattle.solver.specs.Entries.{never}
 use Rattle.solver.specs.Marking.{GoodWhereNever}
 use Rattle.shift.specs.declared.Order.{Order}
 use Rattle.shift.specs.declared.Shift.{Shift}
-use Rattle.shift.specs.Good.{is_good, is_good_pour, pours_good, moves_of, has_good_move, FirstGoodMove}
-use Rattle.shift.specs.Checks.{names, poured_to, order_checks, done_checks, withdrawn_checks, arrived_checks}
+use Rattle.shift.specs.Good.{is_good, is_good_pour, pours_good, edges_at, has_good_move, FirstGoodMove}
+use Rattle.shift.specs.Checks.{is_ours, names, poured_to, order_checks, done_checks, withdrawn_checks, arrived_checks}
 use Rattle.shift.specs.Answers.{moved_to, moved}
 use Rattle.shift.specs.History.{Event, Ordered, Done, Withdrawn, Arrived, refused_with, move_made, moves_made, Happens, History}
 use Rattle.shift.specs.Fate.{Harmless, Served}
@@ -86,19 +86,19 @@ module _ (g : Game) (wf : WellFormed g) (top : ℕ) (t : Table) (keeps : Keeps t
 
   -- ---- a good fill leads on
   -- at a place that is not theirs one of the moves does
-  ours_leads : (p c : ℕ) → Good g t p c → is_theirs (owner_at (g.at p)) ≡ false → SomeMove (moves_of (g.at p)) (Through t (Good g t) c)
+  ours_leads : (p c : ℕ) → Good g t p c → is_theirs (owner_at (g.at p)) ≡ false → SomeMove (edges_at (g.at p)) (Through t (Good g t) c)
   ours_leads p c good ours =
       let w = good_leads_on g wf top t keeps p c good in
       let own : w.0.owner ≡ Ours = ours_left w.0.owner (sym (ap (λ (x : Option Place). is_theirs (owner_at x)) w.1) ∙ ours) in
-      subst (λ (x : Option Place). SomeMove (moves_of x) (Through t (Good g t) c)) (sym w.1)
+      subst (λ (x : Option Place). SomeMove (edges_at x) (Through t (Good g t) c)) (sym w.1)
       (subst (λ (o : Owner). Choice o w.0.moves (Through t (Good g t) c)) own w.2)
 
   -- at a place that is not ours each of them does
-  theirs_lead : (p c : ℕ) → Good g t p c → is_ours (owner_at (g.at p)) ≡ false → EachMove (moves_of (g.at p)) (Through t (Good g t) c)
+  theirs_lead : (p c : ℕ) → Good g t p c → is_ours (owner_at (g.at p)) ≡ false → EachMove (edges_at (g.at p)) (Through t (Good g t) c)
   theirs_lead p c good theirs =
       let w = good_leads_on g wf top t keeps p c good in
       let own : w.0.owner ≡ Theirs = theirs_left w.0.owner (sym (ap (λ (x : Option Place). is_ours (owner_at x)) w.1) ∙ theirs) in
-      subst (λ (x : Option Place). EachMove (moves_of x) (Through t (Good g t) c)) (sym w.1)
+      subst (λ (x : Option Place). EachMove (edges_at x) (Through t (Good g t) c)) (sym w.1)
       (subst (λ (o : Owner). Choice o w.0.moves (Through t (Good g t) c)) own w.2)
 
   -- so an order lacks no good move
@@ -107,7 +107,7 @@ module _ (g : Game) (wf : WellFormed g) (top : ℕ) (t : Table) (keeps : Keeps t
       let w = ours_leads p c good ours in
       let is : step_at (g.at p) w.0 ≡ Some w.1 = step_is (g.at p) w.0 ∙ w.2 in
       true≢false (sym (good_is_poured c w.1 (step_inside g wf p w.0 w.1 is) w.3)
-      ∙ each_fails (pours_good top t marks c) (moves_of (g.at p)) none w.0 w.1 w.2)
+      ∙ each_fails (pours_good top t marks c) (edges_at (g.at p)) none w.0 w.1 w.2)
 
   -- ---- one call
   -- move m is one of the place, and leads on to a good fill

@@ -26,13 +26,13 @@ any_move test [] = false
 any_move test (e ∷ es) = test e || any_move test es
 
 -- the moves of what stands at a place number
-abbrev pub moves_of : Option Place → List Edge
-moves_of None = []
-moves_of (Some q) = q.moves
+abbrev pub edges_at : Option Place → List Edge
+edges_at None = []
+edges_at (Some q) = q.moves
 
 -- some move of it is poured from level c to a good level
 abbrev pub has_good_move : ℕ → Table → List ℕ → ℕ → Option Place → Bool
-has_good_move top t marks c at = any_move (pours_good top t marks c) (moves_of at)
+has_good_move top t marks c at = any_move (pours_good top t marks c) (edges_at at)
 
 -- m is the first such move, in number order
 pub record FirstGoodMove (top : ℕ) (t : Table) (marks : List ℕ) (c : ℕ) (at : Option Place) (m : ℕ) : Type 0 where
