@@ -1,5 +1,6 @@
 -- A shift at a good fill is served: one call after another.
 use Rattle.std.specs.Bool.{then_some}
+use Rattle.std.specs.Option.{option_map_or}
 use Rattle.std.proofs.Common.{◌≡◌, ℕ, zero, suc, ◌<◌, ◌≤◌, Bool, true, false, not, ◌&&◌, eqb, List, [], ◌∷◌, ◌++◌, get_or, is_some, is_ok, Some, None, Ok, Err, Option, sym, refl, ap, ◌∙◌, subst, arith}
 use Rattle.std.specs.List.{slice_get}
 use Rattle.std.proofs.lemmas.Bool.{true≢false, false≢true, not-true, not-false, eqb-true, eq-eqb, and_parts}
@@ -27,7 +28,7 @@ use Rattle.solver.specs.Marking.{GoodWhereNever}
 use Rattle.shift.specs.declared.Order.{Order}
 use Rattle.shift.specs.declared.Shift.{Shift}
 use Rattle.shift.specs.Good.{is_good, is_good_pour, pours_good, edges_at, has_good_move, FirstGoodMove}
-use Rattle.shift.specs.Checks.{is_ours, names, poured_to, order_checks, done_checks, withdrawn_checks, arrived_checks}
+use Rattle.shift.specs.Checks.{is_ours, is_open_order, poured_to, order_checks, done_checks, withdrawn_checks, arrived_checks}
 use Rattle.shift.specs.Answers.{moved_to, moved}
 use Rattle.shift.specs.History.{Event, Ordered, Done, Withdrawn, Arrived, refused_with, move_made, moves_made, Happens, History}
 use Rattle.shift.specs.Fate.{Harmless, Served}
@@ -155,10 +156,11 @@ module _ (g : Game) (wf : WellFormed g) (top : ℕ) (t : Table) (keeps : Keeps t
         none_some (sym (none_there (poured_to t s.level (step_at (g.at s.place) m)) fails) ∙ (ap (poured_to t s.level) w.1 ∙ w.2.1))
 
     -- the open order's move leads on
-    open_leads_on : (o : Order) → not (names s o s.opened) ≡ false → LeadsOn s o.mv
-    open_leads_on o is = by s.opened (not-false (names s o s.opened) is) ok.pending
+    open_leads_on : (o : Order) → not (is_open_order s o) ≡ false → LeadsOn s o.mv
+    open_leads_on o is = by s.opened (not-false (is_open_order s o) is) ok.pending
       where
-        by : (opened : Option ℕ) → names s o opened ≡ true → Pending s opened → LeadsOn s o.mv
+        by : (opened : Option ℕ)
+            → option_map_or (λ m. eqb o.shift s.number && (eqb o.place s.place && eqb o.mv m)) opened false ≡ true → Pending s opened → LeadsOn s o.mv
         by None named pending = absurd (false≢true named)
         by (Some m) named pending =
             let both = and_parts (eqb o.shift s.number) (eqb o.place s.place && eqb o.mv m) named in

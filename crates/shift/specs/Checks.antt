@@ -1,5 +1,6 @@
 -- The checks of a shift's calls, and the table of them that each call has.
 use Rattle.std.specs.Prelude.{ℕ, ◌+◌, Bool, true, false, not, ◌&&◌, ◌||◌, List, [], ◌∷◌, length, is_some, Some, None, Option, ◌==◌, nat_le, nat_lt}
+use Rattle.std.specs.Option.{option_map_or}
 use Rattle.game.specs.declared.Edge.{Edge}
 use Rattle.game.specs.Forced.{spill}
 use Rattle.game.specs.Game.{Game}
@@ -27,10 +28,15 @@ use Rattle.shift.specs.declared.Order.{Order}
 use Rattle.shift.specs.declared.Shift.{Shift}
 use Rattle.shift.specs.Good.{is_good, has_good_move}
 
--- the order names this shift, its place and the move that is open
-abbrev pub names : Shift → Order → Option ℕ → Bool
-names s o None = false
-names s o (Some m) = o.shift == s.number && (o.place == s.place && o.mv == m)
+-- the place is ours
+abbrev pub is_ours : Option Owner → Bool
+is_ours None = false
+is_ours (Some Ours) = true
+is_ours (Some Theirs) = false
+
+-- the order is the open one of the shift: it names the shift, its place and the move that is open
+abbrev pub is_open_order : Shift → Order → Bool
+is_open_order s o = option_map_or (λ m. o.shift == s.number && (o.place == s.place && o.mv == m)) s.opened false
 
 -- the level that the vessel pours the move to from level c, None where there is no move
 abbrev pub poured_to : Table → ℕ → Option Edge → Option ℕ
@@ -66,9 +72,9 @@ place_is g s Theirs = place_is_theirs g s
 abbrev pub no_good_move : Game → ℕ → Table → List ℕ → Shift → Check
 no_good_move g top t marks s = check (not (has_good_move top t marks s.level (g.at s.place))) NoGoodMove Rest s.place
 
--- none is open, or another than this order
+-- no order is open, or another than this one
 abbrev pub not_the_open_order : Shift → Order → Check
-not_the_open_order s o = check (not (names s o s.opened)) NotTheOpenOrder Rest s.place
+not_the_open_order s o = check (not (is_open_order s o)) NotTheOpenOrder Rest s.place
 
 -- the place has no such move
 abbrev pub no_such_move : Game → Shift → ℕ → Check

@@ -1,6 +1,6 @@
 // The checks that the calls of a shift share.
 ghost use Rattle.std.specs.Prelude.{◌≡◌};
-ghost use Rattle.shift.specs.Checks.{names, poured_to, marks_too_short, order_still_open, not_on_board, place_is, not_the_open_order, no_such_move, vessel_refuses};
+ghost use Rattle.shift.specs.Checks.{is_open_order, poured_to, marks_too_short, order_still_open, not_on_board, place_is, not_the_open_order, no_such_move, vessel_refuses};
 
 use super::{Order, Shift};
 use game::{Edge, Owner};
@@ -70,8 +70,8 @@ impl Shift {
     }
 
     // Whether the order names this shift, its place and the move that is open.
-    fn names(&self, order: &Order) -> bool
-        ensures { result ≡ names self.now order.now self.now.opened }
+    fn is_open_order(&self, order: &Order) -> bool
+        ensures { result ≡ is_open_order self.now order.now }
     {
         self.opened.is_some_and(|mv| {
             order.shift == self.number && order.place == self.place && order.mv == mv
@@ -83,7 +83,7 @@ impl Shift {
         ensures { result ≡ not_the_open_order self.now order.now }
     {
         check(
-            !self.names(order),
+            !self.is_open_order(order),
             Refusal::NotTheOpenOrder,
             Layer::Rest,
             self.place as u64,

@@ -2,7 +2,7 @@
 ghost use Rattle.std.specs.Prelude.{◌≡◌, true, IfOk};
 ghost use Rattle.hopper.specs.Refusing.{Answers};
 ghost use Rattle.shift.specs.Good.{FirstGoodMove};
-ghost use Rattle.shift.specs.Checks.{names, order_checks};
+ghost use Rattle.shift.specs.Checks.{is_open_order, order_checks};
 ghost use Rattle.shift.specs.Answers.{OrderAnswers, WithdrawnAnswers};
 
 use super::checks::marks_too_short;
@@ -64,7 +64,7 @@ impl Shift {
         marks: &[u32],
     ) -> Result<Order, Fault>
         ensures answer { OrderAnswers (B.Board.game board.now) (V.Vessel.top vessel.now) (V.Vessel.table vessel.now) marks.now self.old self.new result }
-        ensures open { IfOk result (λ o. names self.new o self.new.opened ≡ true) }
+        ensures open { Accepted (λ o. is_open_order self.new o ≡ true) result }
     {
         let mv = self.first_good(board, vessel, marks)?;
         self.opened = Some(mv);

@@ -1,6 +1,6 @@
 // What lies on the desk between two calls, the shift and the order that it gave out, and what each call makes of it.
 ghost use Rattle.std.specs.Prelude.{◌≡◌, true};
-ghost use Rattle.shift.specs.Checks.{names};
+ghost use Rattle.shift.specs.Checks.{is_open_order};
 
 use crate::call::ShiftCall;
 use crate::said::{Answer, Position, Refused, Said};
@@ -20,7 +20,7 @@ pub(crate) struct Bench<'x, 'f, 'm> {
 pub(crate) struct Pair {
     shift: Shift,
     order: Order,
-    ghost open: { names shift order shift.opened ≡ true },
+    ghost open: { is_open_order shift order ≡ true },
 }
 
 // No shift, or a shift without an order, or a shift with its open order.

@@ -1,6 +1,6 @@
 // Shifts: every refusal of every call with its spot, in the order of the checks, and orders done, withdrawn and given out again.
 ghost use Rattle.std.specs.Prelude.{◌≡◌, true};
-ghost use Rattle.shift.specs.Checks.{names};
+ghost use Rattle.shift.specs.Checks.{is_open_order};
 
 use crate::bought::Leak;
 use crate::lines::{ACCEPTED, Told, refused, told_whether};
@@ -25,7 +25,7 @@ const ALL_GOOD: [u32; 23] = [NEVER; 23];
 struct Held {
     shift: Shift,
     order: Order,
-    ghost open: { names shift order shift.opened ≡ true },
+    ghost open: { is_open_order shift order ≡ true },
 }
 
 // kept as it is: no plainer, the tests show one shift boards, vessels and marks that do not go together.
