@@ -1,6 +1,6 @@
 -- On the marks of an accepted `mark` a move is ordered at each good fill of a place of ours.
-use Rattle.std.proofs.Common.{◌≡◌, ℕ, true, List, is_ok, Some, None, Option, sym, refl, ap, ◌∙◌}
-use Rattle.std.proofs.lemmas.Bool.{and_from, true≢false}
+use Rattle.std.proofs.Common.{◌≡◌, ℕ, true, List, is_ok, Option, ap, ◌∙◌}
+use Rattle.std.proofs.lemmas.Bool.{and_from}
 use Rattle.game.specs.declared.Owner.TheVariants.{Ours}
 use Rattle.game.specs.Game.{Game, WellFormed}
 use Rattle.game.specs.Vessel.{Table, Keeps}
@@ -13,10 +13,9 @@ use Rattle.sheet.specs.Fills.{gives_order, OrderedMove, OrderedWhereGood}
 
 pub ordered_where_good : (g : Game) → WellFormed g → (top : ℕ) (t : Table) → Keeps top t → (marks : List ℕ) (p c : ℕ) (r : Option ℕ)
     → OrderedMove g top t marks p c r → OrderedWhereGood g top t marks p c r
-ordered_where_good g wf top t keeps marks p c None unordered old rounds marked ours good =
+ordered_where_good g wf top t keeps marks p c r ordered old rounds marked ours good =
     let opens = (starting_fill_tells_the_whole_fate g wf top t keeps).good_start_is_opened old marks rounds marked 0 p c (owner_some g wf p Ours ours) good in
     let gives : gives_order g top t marks p c ≡ true =
     and_from (passes (open_checks g top marks p c)) (passes (order_checks g top t marks (opened_at 0 p c))) (ap is_ok opens.0)
     (good_is_ordered g wf top t keeps old marks rounds marked 0 p c ours good) in
-    absurd (true≢false (sym gives ∙ unordered))
-ordered_where_good g wf top t keeps marks p c (Some m) ordered old rounds marked ours good = refl
+    ordered.0 ∙ gives

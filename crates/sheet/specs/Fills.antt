@@ -1,5 +1,5 @@
 -- The least good fill of a place and the move ordered there, read off marks.
-use Rattle.std.specs.Prelude.{◌≡◌, ℕ, ◌+◌, ◌<◌, Bool, true, false, ◌&&◌, List, Some, None, Ok, Option, IsSome}
+use Rattle.std.specs.Prelude.{◌≡◌, ℕ, ◌+◌, ◌<◌, Bool, ◌&&◌, List, Some, Ok, Option, is_some, IsSome, IfSome}
 use Rattle.game.specs.declared.Owner.TheVariants.{Ours}
 use Rattle.game.specs.Game.{Game, WellFormed}
 use Rattle.game.specs.Vessel.{Table, Keeps}
@@ -26,10 +26,9 @@ LeastGoodByMarks top marks p r =
 abbrev pub gives_order : Game → ℕ → Table → List ℕ → ℕ → ℕ → Bool
 gives_order g top t marks p c = passes (open_checks g top marks p c) && passes (order_checks g top t marks (opened_at 0 p c))
 
--- the move ordered there: the first that is poured to a good level, and none just where the shift does not open or its order is refused
+-- a move is ordered just where the shift opens and its order is not refused, and it is the first that is poured to a good level
 abbrev pub OrderedMove : Game → ℕ → Table → List ℕ → ℕ → ℕ → Option ℕ → Type 0
-OrderedMove g top t marks p c None = gives_order g top t marks p c ≡ false
-OrderedMove g top t marks p c (Some m) = (gives_order g top t marks p c ≡ true) × FirstGoodMove top t marks c (g.at p) m
+OrderedMove g top t marks p c r = (is_some r ≡ gives_order g top t marks p c) × IfSome r (FirstGoodMove top t marks c (g.at p))
 
 -- on marks that an accepted `mark` wrote a move is ordered at each good fill of a place of ours
 abbrev pub OrderedWhereGood : Game → ℕ → Table → List ℕ → ℕ → ℕ → Option ℕ → Type 0

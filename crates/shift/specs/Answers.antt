@@ -1,5 +1,5 @@
 -- What each call answers, and the shift after it.
-use Rattle.std.specs.Prelude.{◌≡◌, ℕ, List, Some, None, Ok, Err, Option, Result}
+use Rattle.std.specs.Prelude.{◌≡◌, ℕ, List, Some, None, Ok, Err, Option, Result, MatchResult, ⊤}
 use Rattle.game.specs.declared.Edge.{Edge}
 use Rattle.game.specs.Game.{Game}
 use Rattle.game.specs.Vessel.{Table}
@@ -35,7 +35,7 @@ opened_at number p c = record { number = number; place = p; level = c; opened = 
 -- open answers the shift that was just opened at place p and fill c
 abbrev pub OpenAnswers : Game → ℕ → List ℕ → ℕ → ℕ → ℕ → Result Shift Fault → Type 0
 OpenAnswers g top marks number p c =
-    Answers (open_checks g top marks p c) (λ s. s ≡ opened_at number p c) (Unit {0})
+    Answers (open_checks g top marks p c) (λ s. s ≡ opened_at number p c) ⊤
 
 -- the order for move m of the shift's place
 abbrev pub order_for : Shift → ℕ → Order
@@ -49,24 +49,26 @@ OrderAnswers g top t marks s s' =
     (s' ≡ s)
 
 -- a report of the order o is answered: the shift is as told, or the order is handed back with the fault and the shift is as it was
-abbrev pub ReportAnswers : List Check → Order → Shift → Shift → Shift → Result (Unit {0}) Returned → Type 0
-ReportAnswers checks o s told s' (Ok u) = (verdict checks ≡ Ok tt) × (s' ≡ told)
-ReportAnswers checks o s told s' (Err x) = (verdict checks ≡ Err x.fault) × (x.order ≡ o) × (s' ≡ s)
+abbrev pub ReportAnswers : List Check → Order → Shift → Shift → Shift → Result ⊤ Returned → Type 0
+ReportAnswers checks o s told s' r =
+    MatchResult r (λ _. (verdict checks ≡ Ok tt) × (s' ≡ told)) (λ x. (verdict checks ≡ Err x.fault) × (x.order ≡ o) × (s' ≡ s))
 
 -- done makes the order's move
-abbrev pub DoneAnswers : Game → ℕ → Table → Order → Shift → Shift → Result (Unit {0}) Returned → Type 0
+abbrev pub DoneAnswers : Game → ℕ → Table → Order → Shift → Shift → Result ⊤ Returned → Type 0
 DoneAnswers g top t o s = ReportAnswers (done_checks g top t s o) o s (moved t s (step_at (g.at s.place) o.mv))
 
 -- withdrawn closes the order, and place and level stay
-abbrev pub WithdrawnAnswers : Order → Shift → Shift → Result (Unit {0}) Returned → Type 0
+abbrev pub WithdrawnAnswers : Order → Shift → Shift → Result ⊤ Returned → Type 0
 WithdrawnAnswers o s = ReportAnswers (withdrawn_checks s o) o s (with_order s None)
 
 -- arrived makes their move m
-abbrev pub ArrivedAnswers : Game → ℕ → Table → ℕ → Shift → Shift → Result (Unit {0}) Fault → Type 0
+abbrev pub ArrivedAnswers : Game → ℕ → Table → ℕ → Shift → Shift → Result ⊤ Fault → Type 0
 ArrivedAnswers g top t m s s' =
     Answers (arrived_checks g top t s m) (λ _. s' ≡ moved t s (step_at (g.at s.place) m)) (s' ≡ s)
 
 -- close answers place and level, or hands the shift back with the fault
 abbrev pub CloseAnswers : Shift → Result (ℕ × ℕ) StillOpen → Type 0
-CloseAnswers s (Ok at) = (verdict (close_checks s) ≡ Ok tt) × (at.0 ≡ s.place) × (at.1 ≡ s.level)
-CloseAnswers s (Err x) = (verdict (close_checks s) ≡ Err x.fault) × (x.shift ≡ s)
+CloseAnswers s r =
+    MatchResult r
+    (λ at. (verdict (close_checks s) ≡ Ok tt) × (at.0 ≡ s.place) × (at.1 ≡ s.level))
+    (λ x. (verdict (close_checks s) ≡ Err x.fault) × (x.shift ≡ s))

@@ -1,5 +1,7 @@
 -- Histories: lists of calls on a shift with what they answered, and the moves made in them.
-use Rattle.std.specs.Prelude.{◌≡◌, ℕ, List, [], ◌∷◌, ◌++◌, Some, None, Ok, Err, Option, Result}
+use Rattle.std.specs.Prelude.{◌≡◌, ℕ, List, [], ◌∷◌, ◌++◌, is_ok, cond, Option, Result, ⊤}
+use Rattle.std.specs.Option.{option_map}
+use Rattle.std.specs.Result.{result_err}
 use Rattle.game.specs.Game.{Game}
 use Rattle.game.specs.Vessel.{Table}
 use Rattle.game.specs.Play.{Run}
@@ -19,9 +21,9 @@ pub data Call : Type 0 where
 -- a call with its answer
 pub data Event : Type 0 where
   Ordered : Result Order Fault → Event
-  Done : Order → Result (Unit {0}) Returned → Event
-  Withdrawn : Order → Result (Unit {0}) Returned → Event
-  Arrived : ℕ → Result (Unit {0}) Fault → Event
+  Done : Order → Result ⊤ Returned → Event
+  Withdrawn : Order → Result ⊤ Returned → Event
+  Arrived : ℕ → Result ⊤ Fault → Event
 
 -- the call of an event
 abbrev pub call_of : Event → Call
@@ -32,23 +34,17 @@ call_of (Arrived m r) = ReportArrived m
 
 -- the fault that the call was refused with, None where it was accepted
 abbrev pub refused_with : Event → Option Fault
-refused_with (Ordered (Ok o)) = None
-refused_with (Ordered (Err f)) = Some f
-refused_with (Done o (Ok u)) = None
-refused_with (Done o (Err x)) = Some x.fault
-refused_with (Withdrawn o (Ok u)) = None
-refused_with (Withdrawn o (Err x)) = Some x.fault
-refused_with (Arrived m (Ok u)) = None
-refused_with (Arrived m (Err f)) = Some f
+refused_with (Ordered r) = result_err r
+refused_with (Done o r) = option_map (λ x. x.fault) (result_err r)
+refused_with (Withdrawn o r) = option_map (λ x. x.fault) (result_err r)
+refused_with (Arrived m r) = result_err r
 
 -- the move made: that of an accepted done report or an accepted arrival
 abbrev pub move_made : Event → Run
 move_made (Ordered r) = []
-move_made (Done o (Ok u)) = o.mv ∷ []
-move_made (Done o (Err x)) = []
+move_made (Done o r) = cond (is_ok r) (o.mv ∷ []) []
 move_made (Withdrawn o r) = []
-move_made (Arrived m (Ok u)) = m ∷ []
-move_made (Arrived m (Err f)) = []
+move_made (Arrived m r) = cond (is_ok r) (m ∷ []) []
 
 -- the moves made, in their order
 abbrev pub moves_made : List Event → Run

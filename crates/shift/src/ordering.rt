@@ -1,5 +1,6 @@
 // Orders: given out for the first good move, and withdrawn.
-ghost use Rattle.std.specs.Prelude.{◌≡◌, true, IfOk};
+ghost use Rattle.std.specs.Prelude.{◌≡◌, true, ⊤};
+ghost use Rattle.hopper.specs.Accepting.{Accepted};
 ghost use Rattle.hopper.specs.Refusing.{Answers};
 ghost use Rattle.shift.specs.Good.{FirstGoodMove};
 ghost use Rattle.shift.specs.Checks.{is_open_order, order_checks};
@@ -30,7 +31,7 @@ impl Shift {
         vessel: &V,
         marks: &[u32],
     ) -> Result<u32, Fault>
-        ensures { Answers (order_checks (B.Board.game board.now) (V.Vessel.top vessel.now) (V.Vessel.table vessel.now) marks.now self.now) (FirstGoodMove (V.Vessel.top vessel.now) (V.Vessel.table vessel.now) marks.now self.now.level ((B.Board.game board.now).at self.now.place)) (Unit {0}) result }
+        ensures { Answers (order_checks (B.Board.game board.now) (V.Vessel.top vessel.now) (V.Vessel.table vessel.now) marks.now self.now) (FirstGoodMove (V.Vessel.top vessel.now) (V.Vessel.table vessel.now) marks.now self.now.level ((B.Board.game board.now).at self.now.place)) ⊤ result }
     {
         pass(&[
             self.order_still_open(),
