@@ -68,15 +68,12 @@ impl Shift {
     ) -> Result<(), Returned>
         ensures { DoneAnswers (B.Board.game board.now) (V.Vessel.top vessel.now) (V.Vessel.table vessel.now) order self.old self.new result }
     {
-        // kept as it is: no plainer, the two arms say that the order is handed back or spent, and a `map_err` would move it.
-        match self.check_done(board, vessel, &order) {
-            Err(fault) => Err(Returned { fault, order }),
-            Ok(()) => {
-                self.go_on(board, vessel, order.mv);
-                order.spend();
-                Ok(())
-            }
+        if let Err(fault) = self.check_done(board, vessel, &order) {
+            return Err(Returned { fault, order });
         }
+        self.go_on(board, vessel, order.mv);
+        order.spend();
+        Ok(())
     }
 
     // Reports a move of the other side: it is poured, and the shift goes on to its target.

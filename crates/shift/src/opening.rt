@@ -78,10 +78,9 @@ impl Shift {
     pub fn close(self) -> Result<(u32, u32), StillOpen>
         ensures { CloseAnswers self result }
     {
-        // kept as it is: no plainer, a `map_err` would move the shift that the accepted answer is read off.
-        match pass(&[self.order_still_open()]) {
-            Err(fault) => Err(StillOpen { fault, shift: self }),
-            Ok(()) => Ok((self.place, self.level)),
+        if let Err(fault) = pass(&[self.order_still_open()]) {
+            return Err(StillOpen { fault, shift: self });
         }
+        Ok((self.place, self.level))
     }
 }

@@ -80,14 +80,11 @@ impl Shift {
     pub fn withdrawn(&mut self, order: Order) -> Result<(), Returned>
         ensures { WithdrawnAnswers order self.old self.new result }
     {
-        // kept as it is: no plainer, the two arms say that the order is handed back or spent, and a `map_err` would move it.
-        match pass(&[self.not_the_open_order(&order)]) {
-            Err(fault) => Err(Returned { fault, order }),
-            Ok(()) => {
-                self.opened = None;
-                order.spend();
-                Ok(())
-            }
+        if let Err(fault) = pass(&[self.not_the_open_order(&order)]) {
+            return Err(Returned { fault, order });
         }
+        self.opened = None;
+        order.spend();
+        Ok(())
     }
 }
