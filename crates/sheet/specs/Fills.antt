@@ -12,21 +12,21 @@ use Rattle.shift.specs.Answers.{opened_at}
 use Rattle.shift.specs.Checks.{open_checks, order_checks}
 use Rattle.shift.specs.Good.{is_good, FirstGoodMove}
 
--- the first level up to the top whose entry is never
+-- the first level up to the top that the marks call good at place p, None where there is none
 abbrev pub least_marked_good : ℕ → List ℕ → ℕ → Option ℕ
 least_marked_good top marks p = first_from (is_good top marks p) 0 (top + 1)
 
--- on marks that an accepted `mark` wrote: the least good fill of the place
+-- on marks that an accepted `mark` wrote, of any board over any vessel with this top, r is the least good fill of the place
 abbrev pub LeastGoodByMarks : ℕ → List ℕ → ℕ → Option ℕ → Type 0
 LeastGoodByMarks top marks p r =
     (g : Game) → WellFormed g → (t : Table) → Keeps top t → (old : List ℕ) (rounds : ℕ) → MarkAnswers g top t old marks (Ok rounds)
     → p < g.places → LeastGood g t p r
 
--- a shift opens at this place and fill, and its order is not refused
+-- a shift opens at place p and fill c, and its order is not refused
 abbrev pub gives_order : Game → ℕ → Table → List ℕ → ℕ → ℕ → Bool
 gives_order g top t marks p c = passes (open_checks g top marks p c) && passes (order_checks g top t marks (opened_at 0 p c))
 
--- a move is ordered just where the shift opens and its order is not refused, and it is the first that is poured to a good level
+-- a move is ordered just where a shift opens at place p and fill c and its order is not refused, and it is the first poured to a good level
 abbrev pub OrderedMove : Game → ℕ → Table → List ℕ → ℕ → ℕ → Option ℕ → Type 0
 OrderedMove g top t marks p c r = (is_some r ≡ gives_order g top t marks p c) × IfSome r (FirstGoodMove top t marks c (g.at p))
 

@@ -3,12 +3,12 @@ use Rattle.std.specs.Prelude.{ℕ, List, ◌++◌, Some, None, codes, decimal, O
 use Rattle.game.specs.Owners.{owner_text}
 use Rattle.sheet.specs.declared.SheetRow.{SheetRow}
 
--- a number, or a word where there is none
+-- the text of a number, or a word where there is none
 abbrev pub number_or : Option ℕ → List ℕ → List ℕ
 number_or None word = word
 number_or (Some n) word = decimal n
 
--- place, owner, least good fill, its height, our move and the name, with single blanks between them, also before an empty name
+-- the text of a row: place, owner, least good fill, its height, our move and the name, parted by single blanks, also before an empty name
 abbrev pub row_text : SheetRow → List ℕ
 row_text r =
     decimal r.place ++ (codes " " ++ (owner_text r.owner ++ (codes " " ++ (number_or r.fill (codes "none") ++ (codes " "

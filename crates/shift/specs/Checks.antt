@@ -28,7 +28,7 @@ use Rattle.shift.specs.declared.Order.{Order}
 use Rattle.shift.specs.declared.Shift.{Shift}
 use Rattle.shift.specs.Good.{is_good, has_good_move}
 
--- the place is ours
+-- there is a place, and it is ours
 abbrev pub is_ours : Option Owner → Bool
 is_ours None = false
 is_ours (Some Ours) = true
@@ -38,53 +38,53 @@ is_ours (Some Theirs) = false
 abbrev pub is_open_order : Shift → Order → Bool
 is_open_order s o = option_map_or (λ m. o.shift == s.number && (o.place == s.place && o.mv == m)) s.opened false
 
--- the level that the vessel pours the move to from level c, None where there is no move
+-- the level that the vessel pours the move to from level c, None where there is no move or the vessel refuses it
 abbrev pub poured_to : Table → ℕ → Option Edge → Option ℕ
 poured_to t c None = None
 poured_to t c (Some e) = t c e.amount
 
--- the marks have no room for the fills and the spill
+-- the check that refuses marks without room for the fills and the spill
 abbrev pub marks_too_short : Game → ℕ → List ℕ → Check
 marks_too_short g top marks = check (nat_lt (length marks) (spill g top + 1)) MarksTooShort Rest (spill g top + 1)
 
--- an order is open
+-- the check that refuses a shift with an open order
 abbrev pub order_still_open : Shift → Check
 order_still_open s = check (is_some s.opened) OrderStillOpen Rest s.place
 
--- the shift's place or level is not on this board and vessel
+-- the check that refuses a shift whose place or level is not on this board and vessel
 abbrev pub not_on_board : Game → ℕ → Shift → Check
 not_on_board g top s = check (nat_le g.places s.place || nat_lt top s.level) NotOnBoard Rest s.place
 
--- the place is theirs
+-- the check that refuses a shift at a place of theirs
 abbrev pub place_is_theirs : Game → Shift → Check
 place_is_theirs g s = check (is_theirs (owner_at (g.at s.place))) PlaceIsTheirs Rest s.place
 
--- the place is ours
+-- the check that refuses a shift at a place of ours
 abbrev pub place_is_ours : Game → Shift → Check
 place_is_ours g s = check (is_ours (owner_at (g.at s.place))) PlaceIsOurs Rest s.place
 
--- the place belongs to this owner
+-- the check that refuses a shift at a place of this owner
 abbrev pub place_is : Game → Shift → Owner → Check
 place_is g s Ours = place_is_ours g s
 place_is g s Theirs = place_is_theirs g s
 
--- no move is poured to a good level
+-- the check that refuses a shift with no move that is poured to a good level
 abbrev pub no_good_move : Game → ℕ → Table → List ℕ → Shift → Check
 no_good_move g top t marks s = check (not (has_good_move top t marks s.level (g.at s.place))) NoGoodMove Rest s.place
 
--- no order is open, or another than this one
+-- the check that refuses an order that is not the open one of the shift
 abbrev pub not_the_open_order : Shift → Order → Check
 not_the_open_order s o = check (not (is_open_order s o)) NotTheOpenOrder Rest s.place
 
--- the place has no such move
+-- the check that refuses a move number that the place of the shift does not have
 abbrev pub no_such_move : Game → Shift → ℕ → Check
 no_such_move g s m = check (not (is_some (step_at (g.at s.place) m))) NoSuchMove Rest m
 
--- the vessel refuses the move
+-- the check that refuses a move that the vessel does not pour from the level of the shift
 abbrev pub vessel_refuses : Game → Table → Shift → ℕ → Check
 vessel_refuses g t s m = check (not (is_some (poured_to t s.level (step_at (g.at s.place) m)))) VesselRefuses Rest s.place
 
--- open, at place p and fill c
+-- the checks of `open` at place p and fill c, in their order
 abbrev pub open_checks : Game → ℕ → List ℕ → ℕ → ℕ → List Check
 open_checks g top marks p c =
     check (nat_lt most_fills (spill g top)) TooManyFills Rest top
@@ -94,25 +94,25 @@ open_checks g top marks p c =
     ∷ check (not (is_good top marks p c)) FillNotGood Rest p
     ∷ []
 
--- order
+-- the checks of `order` on the shift s, in their order
 abbrev pub order_checks : Game → ℕ → Table → List ℕ → Shift → List Check
 order_checks g top t marks s =
     order_still_open s ∷ not_on_board g top s ∷ marks_too_short g top marks ∷ place_is_theirs g s ∷ no_good_move g top t marks s ∷ []
 
--- done, of the order o
+-- the checks of `done` for the order o, in their order
 abbrev pub done_checks : Game → ℕ → Table → Shift → Order → List Check
 done_checks g top t s o =
     not_the_open_order s o ∷ not_on_board g top s ∷ place_is_theirs g s ∷ no_such_move g s o.mv ∷ vessel_refuses g t s o.mv ∷ []
 
--- withdrawn, of the order o
+-- the one check of `withdrawn` for the order o
 abbrev pub withdrawn_checks : Shift → Order → List Check
 withdrawn_checks s o = not_the_open_order s o ∷ []
 
--- arrived, by the move m
+-- the checks of `arrived` for their move m, in their order
 abbrev pub arrived_checks : Game → ℕ → Table → Shift → ℕ → List Check
 arrived_checks g top t s m =
     order_still_open s ∷ not_on_board g top s ∷ place_is_ours g s ∷ no_such_move g s m ∷ vessel_refuses g t s m ∷ []
 
--- close
+-- the one check of `close` on the shift s
 abbrev pub close_checks : Shift → List Check
 close_checks s = order_still_open s ∷ []

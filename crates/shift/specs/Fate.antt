@@ -32,7 +32,7 @@ pub record WholeFate (g : Game) (top : ℕ) (t : Table) : Type 0 where
   pub good_start_is_opened : (old marks : List ℕ) (rounds : ℕ) → MarkAnswers g top t old marks (Ok rounds)
       → (number p c : ℕ) → p < g.places → Good g t p c
       → OpenAnswers g top marks number p c (Ok (opened_at number p c))
-  -- and a shift that is opened on them is served in every history of calls
+  -- on marks that an accepted `mark` wrote, a shift that was opened is served in every history of calls
   pub good_start_is_served : (old marks : List ℕ) (rounds : ℕ) → MarkAnswers g top t old marks (Ok rounds)
       → (number p c : ℕ) (s : Shift) → OpenAnswers g top marks number p c (Ok s)
       → (es : List Event) (s' : Shift) → History g top t marks s es s' → Served g t p c es s'
@@ -47,13 +47,13 @@ pub record WholeFate (g : Game) (top : ℕ) (t : Table) : Type 0 where
   -- over a lip no lower than the drop sum each place has the least good fill that it has without a lip, and has none where it has none
   pub lip_at_drop_sum_is_no_lip : (b : ℕ) → drop_sum g ≤ b → (p : ℕ) → p < g.places → (o : Option ℕ)
       → (LeastGood g (lip b) p o ↔ LeastGood g unlimited p o)
-  -- over a graded vessel an accepted `least` leaves the least good fills
+  -- over a vessel whose table has a need at every level and amount an accepted `least` leaves the least good fills
   pub least_good_is_answered : (need : Need) → Graded top t need → (row row' next next' : List ℕ) (budget j : ℕ)
       → LeastAnswers g top t row row' next next' budget (Ok j) → HoldsLeastGood g t row'
-  -- and with a budget of places × (top + 1) or more it is not refused for rows that keep changing
+  -- with a budget of places × (top + 1) or more `least` is not refused for rows that keep changing
   pub least_never_gives_up : (row row' next next' : List ℕ) (budget : ℕ) (r : Result ℕ Fault)
       → LeastAnswers g top t row row' next next' budget r → NeverGivesUp g top budget r
 
--- it is so on every board within the limits and over every vessel that keeps the rules
+-- a starting fill tells the whole fate of its shift, on every board within the limits and over every vessel that keeps the rules
 abbrev pub StartingFillTellsTheWholeFate : Type 0
 StartingFillTellsTheWholeFate = (g : Game) → WellFormed g → (top : ℕ) (t : Table) → Keeps top t → WholeFate g top t

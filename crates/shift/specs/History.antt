@@ -18,47 +18,47 @@ pub data Call : Type 0 where
   ReportWithdrawn : Order → Call
   ReportArrived : ℕ → Call
 
--- a call with its answer
+-- a call on a shift, with what it answered
 pub data Event : Type 0 where
   Ordered : Result Order Fault → Event
   Done : Order → Result ⊤ Returned → Event
   Withdrawn : Order → Result ⊤ Returned → Event
   Arrived : ℕ → Result ⊤ Fault → Event
 
--- the call of an event
+-- the call that was made in an event
 abbrev pub call_of : Event → Call
 call_of (Ordered r) = AskOrder
 call_of (Done o r) = ReportDone o
 call_of (Withdrawn o r) = ReportWithdrawn o
 call_of (Arrived m r) = ReportArrived m
 
--- the fault that the call was refused with, None where it was accepted
+-- the fault that the call of an event was refused with, None where it was accepted
 abbrev pub refused_with : Event → Option Fault
 refused_with (Ordered r) = result_err r
 refused_with (Done o r) = option_map (λ x. x.fault) (result_err r)
 refused_with (Withdrawn o r) = option_map (λ x. x.fault) (result_err r)
 refused_with (Arrived m r) = result_err r
 
--- the move made: that of an accepted done report or an accepted arrival
+-- the moves made in one event: the one of an accepted done report or of an accepted arrival, else none
 abbrev pub move_made : Event → Run
 move_made (Ordered r) = []
 move_made (Done o r) = cond (is_ok r) (o.mv ∷ []) []
 move_made (Withdrawn o r) = []
 move_made (Arrived m r) = cond (is_ok r) (m ∷ []) []
 
--- the moves made, in their order
+-- the moves made in a list of events, in their order
 abbrev pub moves_made : List Event → Run
 moves_made [] = []
 moves_made (e ∷ es) = move_made e ++ moves_made es
 
--- the call on the shift s answers as it must, and leaves the shift s'
+-- the event can happen to the shift s: its call answers as it must, and leaves the shift s'
 abbrev pub Happens : Game → ℕ → Table → List ℕ → Shift → Event → Shift → Type 0
 Happens g top t marks s (Ordered r) s' = OrderAnswers g top t marks s s' r
 Happens g top t marks s (Done o r) s' = DoneAnswers g top t o s s' r
 Happens g top t marks s (Withdrawn o r) s' = WithdrawnAnswers o s s' r
 Happens g top t marks s (Arrived m r) s' = ArrivedAnswers g top t m s s' r
 
--- the calls one after another lead from the shift s to the shift s'
+-- the events, one after another, lead from the shift s to the shift s'
 abbrev pub History : Game → ℕ → Table → List ℕ → Shift → List Event → Shift → Type 0
 History g top t marks s [] s' = s ≡ s'
 History g top t marks s (e ∷ es) s' = (next : Shift) × Happens g top t marks s e next × History g top t marks next es s'
