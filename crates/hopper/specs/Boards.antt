@@ -11,13 +11,13 @@ abbrev pub owner_at : Option Place → Option Owner
 owner_at None = None
 owner_at (Some q) = Some q.owner
 
--- it is we who choose
+-- there is a place, and it is ours
 abbrev pub is_ours : Option Owner → Bool
 is_ours None = false
 is_ours (Some Ours) = true
 is_ours (Some Theirs) = false
 
--- it is the other side that chooses
+-- there is a place, and it is theirs
 abbrev pub is_theirs : Option Owner → Bool
 is_theirs None = false
 is_theirs (Some Ours) = false

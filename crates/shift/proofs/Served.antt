@@ -28,7 +28,7 @@ use Rattle.solver.specs.Marking.{GoodWhereNever}
 use Rattle.shift.specs.declared.Order.{Order}
 use Rattle.shift.specs.declared.Shift.{Shift}
 use Rattle.shift.specs.Good.{is_good, is_good_pour, pours_good, edges_at, has_good_move, FirstGoodMove}
-use Rattle.shift.specs.Checks.{is_ours, is_open_order, poured_to, order_checks, done_checks, withdrawn_checks, arrived_checks}
+use Rattle.shift.specs.Checks.{is_open_order, poured_to, order_checks, done_checks, withdrawn_checks, arrived_checks}
 use Rattle.shift.specs.Answers.{moved_to, moved}
 use Rattle.shift.specs.History.{Event, Ordered, Done, Withdrawn, Arrived, refused_with, move_made, moves_made, Happens, History}
 use Rattle.shift.specs.Fate.{Harmless, Served}

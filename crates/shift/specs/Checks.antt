@@ -2,6 +2,8 @@
 use Rattle.std.specs.Prelude.{ℕ, ◌+◌, Bool, true, false, not, ◌&&◌, ◌||◌, List, [], ◌∷◌, length, is_some, Some, None, Option, ◌==◌, nat_le, nat_lt}
 use Rattle.std.specs.Option.{option_map_or}
 use Rattle.game.specs.declared.Edge.{Edge}
+use Rattle.game.specs.declared.Owner.{Owner}
+use Rattle.game.specs.declared.Owner.TheVariants.{Ours, Theirs}
 use Rattle.game.specs.Forced.{spill}
 use Rattle.game.specs.Game.{Game}
 use Rattle.game.specs.Limits.{most_fills}
@@ -27,12 +29,6 @@ use Rattle.hopper.specs.Boards.{owner_at, is_ours, is_theirs, step_at}
 use Rattle.shift.specs.declared.Order.{Order}
 use Rattle.shift.specs.declared.Shift.{Shift}
 use Rattle.shift.specs.Good.{is_good, has_good_move}
-
--- there is a place, and it is ours
-abbrev pub is_ours : Option Owner → Bool
-is_ours None = false
-is_ours (Some Ours) = true
-is_ours (Some Theirs) = false
 
 -- the order is the open one of the shift: it names the shift, its place and the move that is open
 abbrev pub is_open_order : Shift → Order → Bool

@@ -1,6 +1,5 @@
 // Orders: given out for the first good move, and withdrawn.
-ghost use Rattle.std.specs.Prelude.{◌≡◌, true, ⊤};
-ghost use Rattle.hopper.specs.Accepting.{Accepted};
+ghost use Rattle.std.specs.Prelude.{◌≡◌, true, ⊤, IfOk};
 ghost use Rattle.hopper.specs.Refusing.{Answers};
 ghost use Rattle.shift.specs.Good.{FirstGoodMove};
 ghost use Rattle.shift.specs.Checks.{is_open_order, order_checks};
@@ -65,7 +64,7 @@ impl Shift {
         marks: &[u32],
     ) -> Result<Order, Fault>
         ensures answer { OrderAnswers (B.Board.game board.now) (V.Vessel.top vessel.now) (V.Vessel.table vessel.now) marks.now self.old self.new result }
-        ensures open { Accepted (λ o. is_open_order self.new o ≡ true) result }
+        ensures open { IfOk result (λ o. is_open_order self.new o ≡ true) }
     {
         let mv = self.first_good(board, vessel, marks)?;
         self.opened = Some(mv);
