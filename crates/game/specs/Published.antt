@@ -23,12 +23,12 @@ abbrev pub Outcome : (g : Game) (p : ℕ) → Plan → Infinite g p → Type 0
 Outcome g p plan γ =
     (k : ℕ) (q : Place) → g.at (γ.place k) ≡ Some q → q.owner ≡ Ours → γ.number k ≡ plan (prefix γ.number k)
 
--- the accumulated weight with initial credit c under weak upper bound b, after k moves
+-- what is left of the credit c once the amounts of the first k moves are added one by one, cut at b before the first and after each
 abbrev pub weakly : ℤ → ℤ → (ℕ → Edge) → ℕ → ℤ
 weakly b c move zero = int_min c b
 weakly b c move (suc k) = int_min (weakly b c move k +ℤ (move k).amount) b
 
--- the accumulated weight with initial credit c, after k moves
+-- what is left of the credit c once the amounts of the first k moves are added one by one, cut nowhere
 abbrev pub plainly : ℤ → (ℕ → Edge) → ℕ → ℤ
 plainly c move zero = c
 plainly c move (suc k) = plainly c move k +ℤ (move k).amount

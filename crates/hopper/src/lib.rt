@@ -65,13 +65,13 @@ pub enum Refusal {
     NoSuchPlace = 18,
     // a row is too short
     RowTooShort = 19,
-    // the rows up to the budget keep changing
+    // within the budget each row differs from the next
     RowsKeepChanging = 20,
     // a plan is asked for at a place of theirs
     PlanAtTheirs = 21,
-    // the entry is never, or no move serves it
+    // at this entry nothing can be planned
     NoMoveServes = 22,
-    // the fill is above the top
+    // the vessel cannot hold so much
     FillAboveTop = 23,
     // the look-ahead is over too many moves
     LookTooFar = 24,
@@ -83,7 +83,7 @@ pub enum Refusal {
     FillNotGood = 27,
     // an order is open
     OrderStillOpen = 28,
-    // the place or the level is not on this board and vessel
+    // the shift stands off this board, or above this vessel's top
     NotOnBoard = 29,
     // the place is theirs
     PlaceIsTheirs = 30,

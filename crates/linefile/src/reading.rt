@@ -154,7 +154,7 @@ impl<'a> FileLine<'a> {
         ])
     }
 
-    // Fills a record for each place and for each move into two tables; where a table is too short, it fills neither.
+    // Copies the line's records into the front of two tables; where a table is too short, it fills neither.
     pub fn unpack(&self, places: &mut [PlaceRecord], moves: &mut [MoveRecord]) -> Result<(), Fault>
         ensures answer { result ≡ verdict (unpack_checks (held self.now) (length places.old) (length moves.old)) }
         ensures places { places.new ≡ if_accepted result ((held self.now).places ++ drop (length (held self.now).places) places.old) places.old }

@@ -57,7 +57,7 @@ ReportAnswers checks o s told s' r =
 abbrev pub DoneAnswers : Game → ℕ → Table → Order → Shift → Shift → Result ⊤ Returned → Type 0
 DoneAnswers g top t o s = ReportAnswers (done_checks g top t s o) o s (moved t s (step_at (g.at s.place) o.mv))
 
--- what `withdrawn` answers: the order o is closed, and place and level stay, or it is handed back
+-- what `withdrawn` answers: the order o is taken out and nothing is moved, or it is handed back
 abbrev pub WithdrawnAnswers : Order → Shift → Shift → Result ⊤ Returned → Type 0
 WithdrawnAnswers o s = ReportAnswers (withdrawn_checks s o) o s (with_order s None)
 

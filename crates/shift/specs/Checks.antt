@@ -47,7 +47,7 @@ marks_too_short g top marks = check (nat_lt (length marks) (spill g top + 1)) Ma
 abbrev pub order_still_open : Shift → Check
 order_still_open s = check (is_some s.opened) OrderStillOpen Rest s.place
 
--- the check that refuses a shift whose place or level is not on this board and vessel
+-- the check that refuses a shift which stands off this board, or above this vessel's top
 abbrev pub not_on_board : Game → ℕ → Shift → Check
 not_on_board g top s = check (nat_le g.places s.place || nat_lt top s.level) NotOnBoard Rest s.place
 

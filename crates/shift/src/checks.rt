@@ -41,7 +41,7 @@ impl Shift {
         )
     }
 
-    // The place or the level is not on this board and vessel.
+    // The shift stands off this board, or above this vessel's top.
     pub(crate) fn not_on_board<B: Board, V: Vessel>(&self, board: &B, vessel: &V) -> Check
         ensures { result ≡ not_on_board (B.Board.game board.now) (V.Vessel.top vessel.now) self.now }
     {

@@ -56,7 +56,7 @@ impl Shift {
         Ok(found)
     }
 
-    // Gives out the first move, in number order, that the vessel pours to a good level.
+    // Orders the move with the lowest number that is poured to a level which the marks call good.
     pub fn order<B: Board, V: Vessel>(
         &mut self,
         board: &B,
