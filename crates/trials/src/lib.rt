@@ -14,3 +14,7 @@ mod marks;
 mod rows;
 #[cfg(test)]
 mod shifts;
+#[cfg(test)]
+mod tables;
+#[cfg(test)]
+mod writing;
