@@ -46,7 +46,7 @@ pub struct LineTables<'a> {
     pub places: &'a [PlaceRecord],
     pub moves: &'a [MoveRecord],
     pub names: &'a [u8],
-    // kept as it is: a rule of the project, tables may have a number of no kind, and writing refuses it
+    // kept as it is: tables may have a number of no kind, and writing refuses it
     pub kind: u8,
     pub top: u32,
     pub draw: u16,

@@ -75,7 +75,7 @@ fn outside(low: u64, high: u64, n: u64) -> bool
 }
 
 // Only drawn has a draw.
-// kept as it is: a rule of the project, the number in a file may be of no kind.
+// kept as it is: the number in a file may be of no kind.
 fn bad_draw(kind: u64, draw: u64) -> bool
     ensures { result ≡ bad_draw kind draw }
 {
@@ -125,7 +125,7 @@ pub(crate) fn check_numbers(n: Numbers, spot: Numbers) -> Result<(), Fault>
     ])
 }
 
-// kept as it is: a rule of the project, a record may have a number of no owner.
+// kept as it is: a record may have a number of no owner.
 fn bad_place(p: PlaceRecord) -> bool
     ensures { result ≡ bad_place p }
 {

@@ -13,7 +13,7 @@ pub const LONGEST_FILE: usize = 25_616;
 pub const TRAILER_SIZE: usize = 16;
 
 pub const ONLY_VERSION: u8 = 1;
-// its kinds, of which the last has a draw (kept as it is: a rule of the project, a number in a file is refused before it names a kind);
+// its kinds, of which the last has a draw (kept as it is: a number in a file is refused before it names a kind);
 pub const LAST_KIND: u64 = Kind::Drawn as u64;
 
 pub const DRAWN_KIND: u64 = Kind::Drawn as u64;
@@ -51,7 +51,7 @@ pub struct UnknownKind(pub u8);
 // A place as a line file has it: the owner's number, the length of the name in bytes, and the number of moves.
 #[derive(Clone, Copy, PartialEq, Eq, Default, Debug)]
 pub struct PlaceRecord {
-    // kept as it is: a rule of the project, a record may have a number of no owner, and writing refuses it
+    // kept as it is: a record may have a number of no owner, and writing refuses it
     pub owner: u8,
     pub letters: u8,
     pub moves: u16,
@@ -71,7 +71,7 @@ pub struct Numbers {
     pub moves: u64,
     pub top: u64,
     pub draw: u64,
-    // kept as it is: a rule of the project, the number in a file may be of no kind, and reading refuses it
+    // kept as it is: the number in a file may be of no kind, and reading refuses it
     pub kind: u64,
 }
 

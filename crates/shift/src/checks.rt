@@ -7,7 +7,7 @@ use game::{Edge, Owner};
 use hopper::{Board, Check, Layer, Refusal, Vessel, check};
 use solver::fills;
 
-// kept as it is: a rule of the project, each call of a shift is shown a board, a vessel and marks anew, and believes what they say of places, levels and moves that are there.
+// kept as it is: each call of a shift is shown a board, a vessel and marks anew, and believes what they say of places, levels and moves that are there.
 // The marks have no room for the fills and the spill.
 pub(crate) fn marks_too_short<B: Board, V: Vessel>(board: &B, vessel: &V, marks: &[u32]) -> Check
     ensures { result ≡ marks_too_short (B.Board.game board.now) (V.Vessel.top vessel.now) marks.now }

@@ -15,5 +15,5 @@ pub use rows::least;
 pub use unfolded::{Unfolded, fills};
 
 // The number that stands for never in a buffer.
-// kept as it is: a rule of the project, marks and rows are plain numbers in memory that the caller gives.
+// kept as it is: marks and rows are plain numbers in memory that the caller gives.
 pub const NEVER: u32 = 4_294_967_295;
