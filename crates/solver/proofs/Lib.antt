@@ -3,6 +3,7 @@ pub mod Entries
 pub mod Choosing
 pub mod Rounds
 pub mod Attraction
+pub mod Settled
 pub mod Unfolds
 pub mod Marks
 pub mod Parting

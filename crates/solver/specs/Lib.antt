@@ -2,6 +2,7 @@
 pub mod Entries
 pub mod Unfolding
 pub mod Forcing
+pub mod Settling
 pub mod Marking
 pub mod Least
 pub mod RowSteps
