@@ -4,6 +4,9 @@ pub mod Choosing
 pub mod Rounds
 pub mod Attraction
 pub mod Settled
+pub mod Passing
+pub mod LaidFlat
+pub mod FlatSettled
 pub mod Unfolds
 pub mod Marks
 pub mod Parting

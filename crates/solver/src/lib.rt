@@ -2,10 +2,13 @@
 #![tactic(auto)]
 
 mod buffer;
+mod flat;
+mod laying;
 pub mod forcing;
 pub mod marking;
 pub mod planning;
 pub mod rows;
+mod settling;
 pub mod unfolded;
 
 pub use forcing::forced;
