@@ -1,5 +1,6 @@
 // A board laid flat in memory.
 ghost use Rattle.std.specs.Prelude.{◌≡◌, ℕ, ◌+◌, ◌<◌, ◌≤◌, length, slice_index};
+ghost use Rattle.game.specs.Limits.{most_places};
 
 use game::Owner;
 
@@ -10,6 +11,7 @@ pub(crate) struct FlatBoard {
     pub(crate) owners: Vec<Owner>,
     pub(crate) firsts: Vec<u32>,
     pub(crate) targets: Vec<u32>,
+    pub ghost few: { length owners.items ≤ most_places },
     pub ghost numbered: { length firsts.items ≡ length owners.items + 1 },
     pub ghost some: { (p : ℕ) → p < length owners.items → slice_index firsts.items p < slice_index firsts.items (p + 1) },
     pub ghost there: { (p : ℕ) → p < length owners.items → slice_index firsts.items (p + 1) ≤ length targets.items },

@@ -9,6 +9,7 @@ pub mod marking;
 pub mod planning;
 pub mod rows;
 mod settling;
+mod spreading;
 pub mod unfolded;
 
 pub use forcing::forced;

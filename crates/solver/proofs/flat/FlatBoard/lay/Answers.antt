@@ -14,7 +14,9 @@ invariant_of-result g c =
     let laid = c.in_ok-firsts.ensures.laid in
     let all = c.in_ok-targets.ensures.long in
     let longer = c.in_ok-firsts.ensures.long in
+    let few = formed.few_places in
     record {
+      few = omega arith;
       numbered = omega arith;
       some = flat_some game formed owners firsts targets places laid all;
       there = flat_there game formed owners firsts targets places laid all;
