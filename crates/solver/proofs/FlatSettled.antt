@@ -9,12 +9,13 @@ use Rattle.game.specs.Forced.{ForcesInto}
 use Rattle.game.proofs.Base.{some_inj}
 use Rattle.hopper.specs.Boards.{owner_at, step_at, count_at}
 use Rattle.hopper.proofs.Boards.{step_below, step_there}
-use Rattle.solver.specs.Entries.{Tells}
-use Rattle.solver.specs.Forcing.{MarkedBelow, LeadsTo}
+use Rattle.solver.specs.Entries.{Tells, KeptFrom}
+use Rattle.solver.specs.Forcing.{MarkedBelow, LeadsTo, ForcedMarks}
 use Rattle.solver.specs.Settling.{IsBest, IsDue, Settled}
 use Rattle.solver.specs.Flat.{Laid, moves_before, mark_led, IsHighest, IsLowest, IsFlatBest}
 use Rattle.solver.specs.declared.flat.FlatBoard.{FlatBoard}
 use Rattle.solver.proofs.Choosing.{each_forces, some_forces, some_there}
+use Rattle.solver.proofs.Settled.{settled_marks}
 use Rattle.solver.proofs.LaidFlat.{before_next, before_up}
 
 -- a test of a number tells as the number does
@@ -70,7 +71,7 @@ module _ (g : Game) (w : WellFormed g) (f : FlatBoard) (laid : Laid g f) (marks 
       let v = move_of k.0 k.1 k.2 in
       let x = v.3 in
       let y = k.3 in
-      (v.0, v.1, v.2, omega arith)),
+      (v.0, (v.1, v.2, omega arith))),
     λ not. some_forces g (MarkedBelow marks r) p own false (λ m less l.
       let a = from in
       let b = end in
@@ -98,3 +99,8 @@ module _ (g : Game) (w : WellFormed g) (f : FlatBoard) (laid : Laid g f) (target
         most = λ p lt. s.most p (omega arith);
         attained = elim s.attained [ inl z ↦ inl z | inr k ↦ inr (k.0, (let l = k.1 in omega arith), k.2) ];
       }
+
+  -- marks that settle on the flat board are the forced marks, if there are such
+  pub forced_if_settled : target < g.places → (old : List ℕ) → KeptFrom g.places old marks → Settled (IsFlatBest f marks) target (length f.owners.items) marks rounds
+      → rounds < length f.owners.items → ForcedMarks g target old marks rounds
+  forced_if_settled inside old kept s few = settled_marks g w target inside marks rounds (omega (arith, laid.places)) (flat_settled s) old kept

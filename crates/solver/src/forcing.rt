@@ -1,11 +1,15 @@
 // Where the other side can force a run.
-ghost use Rattle.std.specs.Prelude.{◌<◌, ◌≤◌, length};
-ghost use Rattle.solver.specs.Entries.{never};
-ghost use Rattle.solver.specs.Forcing.{RoundDone, ForcedAnswers};
+ghost use Rattle.std.specs.Prelude.{◌<◌, ◌≤◌, length, IfSome};
+ghost use Rattle.solver.specs.Entries.{never, KeptFrom};
+ghost use Rattle.solver.specs.Forcing.{RoundDone, ForcedMarks, ForcedAnswers};
 
 use super::NEVER;
 use super::buffer::Entries;
+use super::flat::FlatBoard;
+use super::settling::settled;
+use super::spreading::spread;
 use hopper::{Board, Fault, Layer, Refusal, check, pass};
+use std::alloc::Global;
 
 // Gives the round as mark to each place without one that can be forced into the places marked before, and says whether there was such a place.
 fn mark_round<B: Board>(board: &B, marks: &mut [u32], round: u32) -> bool
@@ -28,8 +32,42 @@ fn mark_round<B: Board>(board: &B, marks: &mut [u32], round: u32) -> bool
     fresh
 }
 
+// Marks the places round by round, which takes no memory, and answers the number of rounds.
+fn by_rounds<B: Board>(board: &B, target: u32, marks: &mut [u32]) -> u32
+    requires target { target < (B.Board.game board.now).places }
+    requires room { (B.Board.game board.now).places ≤ length marks.old }
+    ensures { ForcedMarks (B.Board.game board.now) target marks.old marks.new result }
+{
+    let places = board.places();
+    marks[..places as usize].fill(NEVER);
+    marks[target as usize] = 0;
+    // kept as it is: no plainer, a `for` has to name a last round and what comes after it, and a closure for `find` would change the marks
+    let mut rounds = 0;
+    while mark_round(board, marks, rounds + 1) {
+        rounds += 1;
+    }
+    rounds
+}
+
+// Marks the places by spreading, in time that grows with the number of moves, and answers the number of rounds if the heap has room for the work and the marks settle.
+fn by_spreading<B: Board>(heap: Global, board: &B, target: u32, marks: &mut [u32]) -> Option<u32>
+    requires target { target < (B.Board.game board.now).places }
+    requires room { (B.Board.game board.now).places ≤ length marks.old }
+    ensures marked { IfSome result (ForcedMarks (B.Board.game board.now) target marks.old marks.new) }
+    ensures kept { KeptFrom (B.Board.game board.now).places marks.old marks.new }
+{
+    let flat = FlatBoard::lay(heap, board)?;
+    spread(heap, &flat, target, &mut marks[..flat.owners.len()])?;
+    settled(&flat, target, marks)
+}
+
 // Finds, place by place, how few moves the other side needs to bring the run to the target, and answers the largest of these numbers.
-pub fn forced<B: Board>(board: &B, target: u32, marks: &mut [u32]) -> Result<u32, Fault>
+pub fn forced<B: Board>(
+    heap: Global,
+    board: &B,
+    target: u32,
+    marks: &mut [u32],
+) -> Result<u32, Fault>
     ensures { ForcedAnswers (B.Board.game board.now) target marks.old marks.new result }
 {
     let places = board.places();
@@ -48,12 +86,8 @@ pub fn forced<B: Board>(board: &B, target: u32, marks: &mut [u32]) -> Result<u32
             places as u64,
         ),
     ])?;
-    marks[..places as usize].fill(NEVER);
-    marks[target as usize] = 0;
-    // kept as it is: no plainer, a `for` has to name a last round and what comes after it, and a closure for `find` would change the marks
-    let mut rounds = 0;
-    while mark_round(board, marks, rounds + 1) {
-        rounds += 1;
+    match by_spreading(heap, board, target, marks) {
+        Some(rounds) => Ok(rounds),
+        None => Ok(by_rounds(board, target, marks)),
     }
-    Ok(rounds)
 }

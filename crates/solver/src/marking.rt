@@ -8,6 +8,7 @@ use super::forcing::forced;
 use super::unfolded::{Unfolded, fills};
 use hopper::limits::MOST_FILLS;
 use hopper::{Board, Fault, Layer, Refusal, Vessel, check, pass};
+use std::alloc::Global;
 
 // kept as it is: no plainer, the struct of both is `Unfolded`, which `mark` makes; were it asked of the caller, each clause would name board and vessel through its fields.
 // How many entries `mark` asks for: one for each fill and one for the spill. Where there are too many fills to mark, as many as for the most.
@@ -20,6 +21,7 @@ pub fn marks_needed<B: Board, V: Vessel>(board: &B, vessel: &V) -> usize
 // Finds, fill by fill, within how many moves the other side can bring about a refusal, and answers the largest of these numbers.
 // On the unfolded board a refusal is a run that comes to the spill.
 pub fn mark<'x, B: Board, V: Vessel>(
+    heap: Global,
     board: &'x B,
     vessel: &'x V,
     marks: &mut [u32],
@@ -43,5 +45,5 @@ pub fn mark<'x, B: Board, V: Vessel>(
         top as u64,
     )])?;
     let unfolded = Unfolded { board, vessel };
-    forced(&unfolded, count as u32, marks)
+    forced(heap, &unfolded, count as u32, marks)
 }

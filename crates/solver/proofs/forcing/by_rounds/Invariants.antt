@@ -1,7 +1,7 @@
--- Invariants and measures of `forced`.
+-- Invariants and measures of `by_rounds`.
 use Rattle.std.proofs.Common.{◌-◌}
 use Rattle.solver.proofs.Attraction.{AfterRounds}
-use Rattle.solver.proofs.forcing.forced.Given as goal
+use Rattle.solver.proofs.forcing.by_rounds.Given as goal
 
 abbrev pub invariant-loop-rounds : goal.invariant-loop-rounds
 invariant-loop-rounds g l = AfterRounds (g.B.Board.game l.board) l.target l.initial.marks l.marks l.rounds
