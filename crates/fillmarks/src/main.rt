@@ -23,7 +23,7 @@ fn print_place(rt: &HostRuntime, line: &FileLine, p: u32, fills: &[u32]) -> io::
 // One line for each place, whose fills lie one after another in the marks.
 fn print_marks<'x>(rt: &HostRuntime, line: &'x FileLine, vessel: &'x AnyVessel) -> io::Result<()> {
     let mut marks = vec![in rt.alloc(); 0u32; marks_needed(line, vessel)]?;
-    match mark(line, vessel, &mut marks) {
+    match mark(rt.alloc(), line, vessel, &mut marks) {
         Err(fault) => println!(rt; "{fault}"),
         Ok(rounds) => {
             println!(rt; "{line} rounds {rounds}")?;

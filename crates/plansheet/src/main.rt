@@ -82,7 +82,7 @@ fn print_ordered(
 
 fn closed_sheet<'x>(rt: &HostRuntime, line: &'x FileLine, vessel: &'x Closed) -> io::Result<()> {
     let mut marks = vec![in rt.alloc(); 0u32; SHEET_MARKS]?;
-    match mark(line, vessel, &mut marks) {
+    match mark(rt.alloc(), line, vessel, &mut marks) {
         Err(fault) => println!(rt; "{fault}"),
         Ok(rounds) => {
             println!(rt; "{line} rounds {rounds}")?;

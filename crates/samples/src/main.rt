@@ -69,7 +69,7 @@ fn print_place<'x>(
 
 fn print_line<'x>(rt: &HostRuntime, line: &'x FileLine, vessel: &'x AnyVessel) -> io::Result<()> {
     let mut marks = vec![in rt.alloc(); 0u32; marks_needed(line, vessel)]?;
-    match mark(line, vessel, &mut marks) {
+    match mark(rt.alloc(), line, vessel, &mut marks) {
         Err(fault) => println!(rt; "{fault}"),
         Ok(rounds) => {
             println!(rt; "{line} rounds {rounds}")?;

@@ -139,7 +139,7 @@ fn run_calls(rt: &HostRuntime, bench: Bench) -> io::Result<()> {
 // Marks the fills of the line, and runs the calls on them. Where there are too many fills to mark no shift opens, but looking ahead needs no marks.
 fn mark_and_run<'x>(rt: &HostRuntime, line: &'x FileLine, vessel: &'x AnyVessel) -> io::Result<()> {
     let mut marks = vec![in rt.alloc(); 0u32; marks_needed(line, vessel)]?;
-    match mark(line, vessel, &mut marks) {
+    match mark(rt.alloc(), line, vessel, &mut marks) {
         Err(fault) => println!(rt; "{line} {fault}")?,
         Ok(rounds) => println!(rt; "{line} rounds {rounds}")?,
     }

@@ -24,7 +24,7 @@ fn agrees(heap: Global, file: &[u8], places: u32, top: u32) -> Result<bool, Allo
     let levels = top.saturating_add(1);
     let fills = places.saturating_mul(levels);
     let mut marks = vec![in heap; 0u32; fills.saturating_add(1) as usize]?;
-    let (number, _, _) = mark_file(file, &mut marks);
+    let (number, _, _) = mark_file(heap, file, &mut marks);
     if number != 0 {
         return Ok(false);
     }

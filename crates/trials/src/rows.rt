@@ -9,6 +9,7 @@ use lineformat::Kind;
 use sheet::SheetRow;
 use sheet::closed::{least_marked_good, ordered_move};
 use solver::{NEVER, least, mark, plan};
+use std::alloc::Global;
 use std::test::Fail;
 
 // The rounds of `least` on a line with its own vessel, or number, layer and spot of the fault.
@@ -124,7 +125,7 @@ fn the_gauge(rt: HostRuntime) {
 }
 
 // The least good fill of a place of a closed line and the move ordered there.
-fn closed_row(file: &[u8], place: u32) -> (Option<u32>, Option<u32>) {
+fn closed_row(heap: Global, file: &[u8], place: u32) -> (Option<u32>, Option<u32>) {
     let Ok(line) = FileLine::try_from(file) else {
         return (None, None);
     };
@@ -132,7 +133,7 @@ fn closed_row(file: &[u8], place: u32) -> (Option<u32>, Option<u32>) {
         return (None, None);
     };
     let mut marks = [0u32; 32];
-    let _rounds = mark(&line, &vessel, &mut marks);
+    let _rounds = mark(heap, &line, &vessel, &mut marks);
     let fill = least_marked_good(&marks, 6, place);
     (
         fill,
@@ -143,9 +144,9 @@ fn closed_row(file: &[u8], place: u32) -> (Option<u32>, Option<u32>) {
 #[test]
 fn rows_of_a_closed_line(rt: HostRuntime) -> Result<(), Fail> {
     let file = line_p(rt.alloc(), Kind::Closed, 6, 0)?;
-    assert_eq!(rt; closed_row(&file, 0), (Some(0), Some(0)));
-    assert_eq!(rt; closed_row(&file, 1), (Some(5), Some(0)));
-    assert_eq!(rt; closed_row(&file, 2), (None, None));
+    assert_eq!(rt; closed_row(rt.alloc(), &file, 0), (Some(0), Some(0)));
+    assert_eq!(rt; closed_row(rt.alloc(), &file, 1), (Some(5), Some(0)));
+    assert_eq!(rt; closed_row(rt.alloc(), &file, 2), (None, None));
     Ok(())
 }
 
@@ -209,7 +210,7 @@ fn headers_of_the_three_kinds(rt: HostRuntime) -> Result<(), Fail> {
 // What marking a closed line answers with the marks of a sheet.
 fn sheet_marks(rt: &HostRuntime, file: &[u8]) -> Result<Told, Fail> {
     let mut marks = vec![in rt.alloc(); 0u32; 8_192]?;
-    Ok(mark_file(file, &mut marks))
+    Ok(mark_file(rt.alloc(), file, &mut marks))
 }
 
 #[test]

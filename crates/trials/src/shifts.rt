@@ -190,7 +190,7 @@ fn opens(rt: HostRuntime) -> Result<(), Fail> {
     let quay = line(&QUAY);
     let lip = Lip::new(10)?;
     let mut marks = [0; 23];
-    let _rounds = mark(&quay, &lip, &mut marks)?;
+    let _rounds = mark(rt.alloc(), &quay, &lip, &mut marks)?;
     assert_eq!(rt; open_told(&quay, &lip, &marks, 0, 0), ACCEPTED);
     assert_eq!(rt; open_told(&quay, &lip, &marks, 1, 2), ACCEPTED);
     assert_eq!(rt; open_told(&quay, &lip, &marks, 1, 1), (27, 4, 1));
@@ -261,7 +261,7 @@ fn orders_by_the_marks(rt: HostRuntime) -> Result<(), Fail> {
     let quay = line(&QUAY);
     let lip = Lip::new(10)?;
     let mut marks = [0; 23];
-    let _rounds = mark(&quay, &lip, &mut marks)?;
+    let _rounds = mark(rt.alloc(), &quay, &lip, &mut marks)?;
     // 3 litres would leave none at their place; 5 leave 2
     let shift = Shift::open(7, &quay, &lip, &marks, 0, 3)?;
     assert_eq!(rt; order_told(shift, &quay, &lip, &marks), (ACCEPTED, 1));
@@ -280,7 +280,7 @@ fn dones(rt: HostRuntime) -> Result<(), Fail> {
     let (quay, pit, one) = (line(&QUAY), line(&PIT), FileLine::built_in());
     let (lip, low) = (Lip::new(10)?, Closed::new(6)?);
     let mut marks = [0; 23];
-    let _rounds = mark(&quay, &lip, &mut marks)?;
+    let _rounds = mark(rt.alloc(), &quay, &lip, &mut marks)?;
     let good = ALL_GOOD;
     let held = opened_and_ordered(7, &quay, &lip, &marks, 0, 3)?;
     assert_eq!(rt; held.done(&quay, &lip), (ACCEPTED, 0, 5));
