@@ -8,3 +8,4 @@ pub mod Marking
 pub mod Least
 pub mod RowSteps
 pub mod Planning
+pub mod EdgeTable

@@ -1,8 +1,7 @@
 -- What `plan` answers, and what becomes of runs that follow it.
-use Rattle.std.specs.Prelude.{◌≡◌, ℕ, ◌<◌, ◌≤◌, Bool, true, false, List, [], ◌∷◌, length, is_ok, Some, None, Ok, Err, Option, Result, nat_le, nat_lt, slice_index}
+use Rattle.std.specs.Prelude.{◌≡◌, ℕ, ◌<◌, ◌≤◌, Bool, true, false, List, [], ◌∷◌, length, is_ok, Some, Ok, Err, Result, nat_le, nat_lt, slice_index}
 use Rattle.game.specs.declared.Edge.{Edge}
-use Rattle.game.specs.declared.Owner.{Owner}
-use Rattle.game.specs.declared.Owner.TheVariants.{Ours, Theirs}
+use Rattle.game.specs.declared.Owner.TheVariants.{Ours}
 use Rattle.game.specs.Game.{Game}
 use Rattle.game.specs.Vessel.{Table}
 use Rattle.game.specs.Fill.{Row}
