@@ -9,3 +9,4 @@ pub mod Least
 pub mod RowSteps
 pub mod Planning
 pub mod EdgeTable
+pub mod Origins

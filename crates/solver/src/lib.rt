@@ -7,6 +7,7 @@ mod laying;
 mod edge_table;
 pub mod forcing;
 pub mod marking;
+mod origins;
 pub mod planning;
 pub mod rows;
 mod settling;
