@@ -13,3 +13,4 @@ pub mod Parting
 pub mod Serving
 pub mod RowByRow
 pub mod Following
+pub mod Remaking

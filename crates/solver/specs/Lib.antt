@@ -10,3 +10,4 @@ pub mod RowSteps
 pub mod Planning
 pub mod EdgeTable
 pub mod Origins
+pub mod Changing

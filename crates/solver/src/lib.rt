@@ -4,6 +4,7 @@
 mod buffer;
 mod flat;
 mod laying;
+mod changing;
 mod edge_table;
 pub mod forcing;
 pub mod marking;

@@ -1,0 +1,27 @@
+-- What is left to show of `remake`.
+use Rattle.std.proofs.Common.{ℕ, ◌<◌, length, slice_index, refl, arith}
+use Rattle.game.specs.Fill.{Step}
+use Rattle.solver.specs.Least.{Parts}
+use Rattle.solver.specs.RowSteps.{Enough}
+use Rattle.solver.proofs.Remaking.{remade_same, remade_other}
+use Rattle.solver.proofs.changing.remake.Goals as goal
+use Rattle.solver.proofs.changing.remake.Goals.{then-entry-row, else-entry-row}
+
+pub loop-i-preserved : goal.loop-i-preserved
+loop-i-preserved g c =
+    let game = g.B.Board.game c.args.board.now in
+    let row = c.args.row.now in
+    let l = c.loop-i in
+    let q = slice_index c.args.list.now l.i in
+    let P : ℕ → ℕ → Type 0 = λ p. Parts (g.V.Vessel.top c.args.vessel.now) (Step game (g.V.Vessel.table c.args.vessel.now) (Enough row) p) in
+    let inside : q < game.places = c.requires.inside l.i c.loop-i-test.true in
+    let few = l.invariant.few in
+    let tall : q < length l.flags = omega arith in
+    elim c.if-entry-row.branch [
+      | then-entry-row w ↦ simp (w.next-is, w.changed-is, w.kept-is)
+          (remade_other game.places P row c.args.list.now c.args.next.now c.args.flags.now l.i l.next l.flags l.changed l.kept l.invariant q refl inside tall
+          c.next_entry-entry.result c.next_entry-entry.ensures (omega arith) (omega arith) w.if-entry-row.true)
+      | else-entry-row w ↦ simp (w.next-is, w.changed-is, w.kept-is)
+          (remade_same game.places P row c.args.list.now c.args.next.now c.args.flags.now l.i l.next l.flags l.changed l.kept l.invariant q refl inside tall
+          c.next_entry-entry.result c.next_entry-entry.ensures w.if-entry-row.false)
+    ]
