@@ -1,0 +1,97 @@
+// From the places that changed back to those with a move to one of them.
+ghost use Rattle.std.specs.Prelude.{◌≡◌, ℕ, ◌<◌, ◌≤◌, length, IfSome, slice_index};
+ghost use Rattle.solver.specs.Changing.{Flagged, IsWorklist, KeepsFlags};
+ghost use Rattle.solver.specs.Origins.{IsSource, FlagsSources};
+
+use super::changing::{add_all, add_place};
+use super::origins::Origins;
+use hopper::Board;
+
+impl<B: Board> Origins<'_, B> {
+    // Puts the sources of the place into the list, and answers the new count, or nothing where the list is full.
+    fn add_sources(
+        &self,
+        target: u32,
+        list: &mut [u32],
+        flags: &mut [bool],
+        count: usize,
+    ) -> Option<usize>
+        requires flags { (B.Board.game self.now.table.board.now).places ≤ length flags.old }
+        requires before { IsWorklist list.old count flags.old }
+        ensures after { IfSome result (λ n. IsWorklist list.new n flags.new) }
+        ensures flagged { IfSome result (λ _. FlagsSources self.now.sources.begins.items self.now.sources.ends.items self.now.sources.places.items flags.new target) }
+        ensures kept { IfSome result (λ _. KeepsFlags flags.old flags.new) }
+    {
+        let sources = &self.sources;
+        let begin = *sources.begins.get(target as usize)?;
+        let end = *sources.ends.get(target as usize)?;
+        let mut count = count;
+        for slot in begin..end {
+            let place = *sources.places.get(slot)?;
+            count = add_place(place, list, flags, count)?;
+        }
+        Some(count)
+    }
+
+    // Puts the sources of all places of a list into the other list, and answers its count, or nothing where it is full.
+    fn add_all_sources(
+        &self,
+        changed: &[u32],
+        changes: usize,
+        list: &mut [u32],
+        flags: &mut [bool],
+    ) -> Option<usize>
+        requires changes { changes ≤ length changed.now }
+        requires flags { (B.Board.game self.now.table.board.now).places ≤ length flags.old }
+        requires before { IsWorklist list.old 0 flags.old }
+        ensures after { IfSome result (λ n. IsWorklist list.new n flags.new) }
+        ensures flagged { IfSome result (λ _. (i : ℕ) → i < changes → FlagsSources self.now.sources.begins.items self.now.sources.ends.items self.now.sources.places.items flags.new (slice_index changed.now i)) }
+    {
+        let mut count = 0;
+        for i in 0..changes {
+            count = self.add_sources(changed[i], list, flags, count)?;
+        }
+        Some(count)
+    }
+
+    // Whether the places of the list have few moves to them, so that it is cheaper to look at their sources than at all places.
+    fn has_few_sources(&self, changed: &[u32], changes: usize) -> bool
+        requires { changes ≤ length changed.now }
+    {
+        let sources = &self.sources;
+        let mut count = 0usize;
+        for i in 0..changes {
+            let target = changed[i] as usize;
+            if let (Some(begin), Some(end)) = (
+                sources.begins.get(target),
+                sources.ends.get(target),
+            ) {
+                count = count.saturating_add(end.saturating_sub(*begin));
+            }
+        }
+        count < sources.places.len() / 2
+    }
+
+    // Lists and flags the places whose entries may change after those of the changed places did, and answers how many they are.
+    pub(crate) fn list_again(
+        &self,
+        changed: &[u32],
+        changes: usize,
+        list: &mut [u32],
+        flags: &mut [bool],
+    ) -> usize
+        requires changes { changes ≤ length changed.now }
+        requires flags { (B.Board.game self.now.table.board.now).places ≡ length flags.old }
+        requires room { length flags.old ≤ length list.old }
+        requires before { IsWorklist list.old 0 flags.old }
+        ensures after { IsWorklist list.new result flags.new }
+        ensures flagged { (i p : ℕ) → i < changes → p < length flags.new → IsSource self.now.sources.begins.items self.now.sources.ends.items self.now.sources.places.items (slice_index changed.now i) p → Flagged flags.new p }
+    {
+        if self.has_few_sources(changed, changes)
+            && let Some(count) = self.add_all_sources(changed, changes, list, flags)
+        {
+            return count;
+        }
+        add_all(list, flags)
+    }
+}
