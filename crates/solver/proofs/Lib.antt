@@ -14,3 +14,4 @@ pub mod Serving
 pub mod RowByRow
 pub mod Following
 pub mod Remaking
+pub mod ByChange

@@ -1,5 +1,5 @@
 -- Rows one after another, until one repeats.
-use Rattle.std.proofs.Common.{◌≡◌, ℕ, suc, ◌+◌, ◌*◌, ◌<◌, ◌≤◌, ◌⊎◌, ◌↔◌, List, ◌++◌, length, length-take-le, get_or, take, drop, replicate, Some, None, Option, sym, refl, ap, ◌∙◌, subst, inl, inr, arith}
+use Rattle.std.proofs.Common.{◌≡◌, ℕ, suc, ◌+◌, ◌*◌, ◌<◌, ◌≤◌, ◌⊎◌, ◌↔◌, List, ◌++◌, length, length-take-le, get_or, slice_index, take, drop, replicate, Some, None, Ok, Err, IfOk, Option, Result, sym, refl, ap, ◌∙◌, subst, inl, inr, arith}
 use Rattle.std.proofs.lemmas.List.{length-replicate}
 use native.Mathlib.Decide.{dec_lt, dec_le}
 use Rattle.game.specs.Game.{Game, WellFormed}
@@ -13,9 +13,10 @@ use Rattle.game.proofs.Levels.{good_level}
 use Rattle.game.proofs.Lip.{step_through, lip_at_drop_sum_is_no_lip}
 use Rattle.game.proofs.Rows.{some_row_repeats, unique}
 use Rattle.game.proofs.Weights.{lip_is_lower_weak_upper_bound, unlimited_is_lower_bound}
+use Rattle.hopper.specs.declared.Fault.{Fault}
 use Rattle.solver.specs.Entries.{entries, KeptFrom}
-use Rattle.solver.specs.Least.{Parts, FirstRepeatedRow, StillChanging, HoldsLeastGood, GoodFrom, WinsLowerWeakUpperBoundFrom, HoldsLeastWithoutLip, HoldsLeastLowerBound}
-use Rattle.solver.specs.RowSteps.{Enough, NextRow}
+use Rattle.solver.specs.Least.{Parts, FirstRepeatedRow, StillChanging, HoldsLeastGood, GoodFrom, WinsLowerWeakUpperBoundFrom, HoldsLeastWithoutLip, HoldsLeastLowerBound, NeverGivesUp}
+use Rattle.solver.specs.RowSteps.{Enough, NextRow, RowsAnswer}
 use Rattle.solver.proofs.Entries.{entry_inj, past_front, filled_front, copied_front, same_front, front_same}
 use Rattle.solver.proofs.Marks.{lip_below_top}
 use Rattle.solver.proofs.Parting.{parts_all, parts_map, parts_least}
@@ -185,26 +186,55 @@ module _ (g : Game) (wf : WellFormed g) (top : ℕ) (t : Table) (keeps : Keeps t
       | no n ↦ (let e : j ≡ i = omega arith in subst (λ (k : ℕ). ¬ Repeats g top t k) e (changes row' next' j r no_same))
     ]
 
-    pub gone_on : (row' next' row'' next'' : List ℕ) (j : ℕ) → Running row next row' next' j → ¬ (take g.places row' ≡ take g.places next')
-        → row'' ≡ take g.places next' ++ drop g.places row' → NextRow g top t g.places row'' next' next''
-        → g.places ≤ length row'' → g.places ≤ length next'' → Running row next row'' next'' (suc j)
+    -- by places: the row is 0 at each place, and the rest of it is as it was
+    pub started_at : (row' next' : List ℕ) → ((p : ℕ) → p < g.places → slice_index row' p ≡ 0) → ((k : ℕ) → g.places ≤ k → slice_index row' k ≡ slice_index row k)
+        → NextRow g top t g.places row' next next' → g.places ≤ length row' → g.places ≤ length next' → Running row next row' next' 0
     unfolding Row_is
-    gone_on row' next' row'' next'' j r no_same e s one two = record {
+    started_at row' next' zero kept s one two = record {
+      one = zeros;
+      two = next_is 0 row' next next' zeros s;
+      before = λ i lt. absurd (omega arith);
+      past_one = kept;
+      past_two = s.rest;
+      room_one = one;
+      room_two = two;
+    }
+      where
+        zeros : (p : ℕ) → p < g.places → Parts top (Holds g t 0 p) (get_or row' p 0)
+        zeros p lt = subst (Parts top (Holds g t 0 p)) (sym (zero p lt)) (parts_all top keeps.top_fits (Holds g t 0 p) (λ c le. tt))
+
+    -- by places: the row is the next one at each place, and the rest of it is as it was
+    pub gone_on_at : (row' next' row'' next'' : List ℕ) (j : ℕ) → Running row next row' next' j → ¬ (take g.places row' ≡ take g.places next')
+        → ((p : ℕ) → p < g.places → slice_index row'' p ≡ slice_index next' p) → ((k : ℕ) → g.places ≤ k → slice_index row'' k ≡ slice_index row' k)
+        → NextRow g top t g.places row'' next' next'' → g.places ≤ length row'' → g.places ≤ length next'' → Running row next row'' next'' (suc j)
+    unfolding Row_is
+    gone_on_at row' next' row'' next'' j r no_same taken kept s one two = record {
       one = same;
       two = next_is (suc j) row'' next' next'' same s;
       before = λ i lt. until row' next' j r no_same i (omega arith);
-      past_one = λ k le.
-          ap (λ (xs : List ℕ). get_or xs k 0) e
-          ∙ (past_front g.places k (take g.places next') row' (length-take-le g.places next' r.room_two) le ∙ r.past_one k le);
+      past_one = λ k le. kept k le ∙ r.past_one k le;
       past_two = λ k le. s.rest k le ∙ r.past_two k le;
       room_one = one;
       room_two = two;
     }
       where
         same : (p : ℕ) → p < g.places → Parts top (Holds g t (suc j) p) (get_or row'' p 0)
-        same p lt =
-            subst (Parts top (Holds g t (suc j) p))
-            (sym (ap (λ (xs : List ℕ). get_or xs p 0) e ∙ copied_front g.places p next' (drop g.places row') lt r.room_two)) (r.two p lt)
+        same p lt = subst (Parts top (Holds g t (suc j) p)) (sym (taken p lt)) (r.two p lt)
+
+    pub gone_on : (row' next' row'' next'' : List ℕ) (j : ℕ) → Running row next row' next' j → ¬ (take g.places row' ≡ take g.places next')
+        → row'' ≡ take g.places next' ++ drop g.places row' → NextRow g top t g.places row'' next' next''
+        → g.places ≤ length row'' → g.places ≤ length next'' → Running row next row'' next'' (suc j)
+    gone_on row' next' row'' next'' j r no_same e s one two =
+        gone_on_at row' next' row'' next'' j r no_same
+        (λ p lt. ap (λ (xs : List ℕ). get_or xs p 0) e ∙ copied_front g.places p next' (drop g.places row') lt r.room_two)
+        (λ k le. ap (λ (xs : List ℕ). get_or xs k 0) e ∙ past_front g.places k (take g.places next') row' (length-take-le g.places next' r.room_two) le)
+        s one two
+
+    -- the next row's entries part the levels by the steps from the row
+    pub next_steps : (row' next' : List ℕ) (j : ℕ) → Running row next row' next' j → (p : ℕ) → p < g.places → Parts top (Step g t (Enough row') p) (slice_index next' p)
+    unfolding Row_is
+    next_steps row' next' j r p lt =
+        parts_map top keeps.top_fits (Holds g t (suc j) p) (Step g t (Enough row') p) (λ c le. to_enough j row' r.one p c) (λ c le. to_holds j row' r.one p c) (slice_index next' p) (r.two p lt)
 
     module _ (row' next' : List ℕ) (j : ℕ) (r : Running row next row' next' j) (sizes : (length row' ≡ length row) × (length next' ≡ length next)) where
       row_kept : KeptFrom g.places row row'
@@ -246,5 +276,20 @@ module _ (g : Game) (wf : WellFormed g) (top : ℕ) (t : Table) (keeps : Keeps t
         next_kept = next_kept;
       }
 
-      pub gives_up_early : ¬ (take g.places row' ≡ take g.places next') → g.places * (top + 1) ≤ j → ⊥
-      gives_up_early no_same le = let w = some_repeats in until row' next' j r no_same w.0 (let z = w.1 in omega arith) w.2
+    -- ---- what follows of the answer
+    module _ (row' next' : List ℕ) (budget : ℕ) where
+      pub answer_lip : (r : Result ℕ Fault) → RowsAnswer g top t row row' next next' budget r → IfOk r (λ _. WinsLowerWeakUpperBoundFrom g t row')
+      answer_lip (Ok j) a = wins_from row' a.3
+      answer_lip (Err e) a = tt
+
+      pub answer_lipless : (r : Result ℕ Fault) → RowsAnswer g top t row row' next next' budget r → IfOk r (λ _. HoldsLeastWithoutLip g t row')
+      answer_lipless (Ok j) a = no_lip row' a.2
+      answer_lipless (Err e) a = tt
+
+      pub answer_lower : (r : Result ℕ Fault) → RowsAnswer g top t row row' next next' budget r → IfOk r (λ _. HoldsLeastLowerBound g t row')
+      answer_lower (Ok j) a = lower_bound row' a.2
+      answer_lower (Err e) a = tt
+
+      pub answer_soon : (r : Result ℕ Fault) → RowsAnswer g top t row row' next next' budget r → NeverGivesUp g top budget r
+      answer_soon (Ok j) a = tt
+      answer_soon (Err e) a = λ le is. let w = some_repeats in a.1.changing w.0 (let z = w.1 in omega arith) w.2

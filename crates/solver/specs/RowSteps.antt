@@ -1,12 +1,15 @@
 -- What the steps of `least` do.
-use Rattle.std.specs.Prelude.{◌≡◌, ℕ, ◌<◌, ◌≤◌, List, Some, None, Option, slice_index}
+use Rattle.std.specs.Prelude.{◌≡◌, ℕ, ◌<◌, ◌≤◌, List, Some, None, Ok, Err, Option, Result, slice_index}
 use Rattle.game.specs.declared.Edge.{Edge}
 use Rattle.game.specs.Game.{Game}
 use Rattle.game.specs.Vessel.{Table}
 use Rattle.game.specs.Fill.{Step}
 use Rattle.game.specs.Rows.{Reaches}
 use Rattle.hopper.specs.Boards.{step_at, count_at}
-use Rattle.solver.specs.Least.{Parts}
+use Rattle.hopper.specs.declared.Fault.{Fault}
+use Rattle.hopper.specs.declared.Layer.TheVariants.{Rest}
+use Rattle.hopper.specs.declared.Refusal.TheVariants.{RowsKeepChanging}
+use Rattle.solver.specs.Least.{Parts, FirstRepeatedRow, StillChanging, HoldsLeastGood, GoodFrom}
 
 -- the level is at least the place's entry
 abbrev pub Enough : List ℕ → ℕ → ℕ → Type 0
@@ -43,3 +46,13 @@ FirstServing g top t row p level (Some m) = NeedsAtMost g top t row p level m ×
 pub record NextRow (g : Game) (top : ℕ) (t : Table) (n : ℕ) (row old next : List ℕ) : Type 0 where
   pub front : (p : ℕ) → p < n → Parts top (Step g t (Enough row) p) (slice_index next p)
   pub rest : (k : ℕ) → n ≤ k → slice_index next k ≡ slice_index old k
+
+-- the fault of rows that still change where the budget is used up
+abbrev pub keeps_changing : ℕ → Fault
+keeps_changing budget = record { refusal = RowsKeepChanging; layer = Rest; spot = budget }
+
+-- what is answered, and left of buffers with room for all places, where rows are made until one repeats or the budget is used up
+abbrev pub RowsAnswer : Game → ℕ → Table → List ℕ → List ℕ → List ℕ → List ℕ → ℕ → Result ℕ Fault → Type 0
+RowsAnswer g top t row row' next next' budget (Ok j) =
+    (j ≤ budget) × FirstRepeatedRow g top t row row' next next' j × HoldsLeastGood g t row' × GoodFrom g top t row'
+RowsAnswer g top t row row' next next' budget (Err e) = (e ≡ keeps_changing budget) × StillChanging g top t row row' next next' budget

@@ -13,6 +13,7 @@ pub mod planning;
 pub mod rows;
 mod settling;
 mod spreading;
+mod scratch;
 mod tracing;
 pub mod unfolded;
 

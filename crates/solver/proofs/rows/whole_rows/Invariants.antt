@@ -1,7 +1,7 @@
--- Invariants and measures of `least`.
+-- Invariants and measures of `whole_rows`.
 use Rattle.std.proofs.Common.{◌-◌, ◌≤◌}
 use Rattle.solver.proofs.RowByRow.{Running}
-use Rattle.solver.proofs.rows.least.Given as goal
+use Rattle.solver.proofs.rows.whole_rows.Given as goal
 
 abbrev pub invariant-loop-budget : goal.invariant-loop-budget
 invariant-loop-budget g l =
