@@ -55,7 +55,7 @@ fn graded_sheet<V: Graded>(rt: &HostRuntime, line: &FileLine, vessel: &V) -> io:
     let budget = fills(line, vessel);
     let mut row = vec![in rt.alloc(); 0u32; places as usize]?;
     let mut next = vec![in rt.alloc(); 0u32; places as usize]?;
-    match least(line, vessel, &mut row, &mut next, budget) {
+    match least(rt.alloc(), line, vessel, &mut row, &mut next, budget) {
         Err(fault) => println!(rt; "{fault}"),
         Ok(rounds) => {
             println!(rt; "{line} rounds {rounds}")?;

@@ -14,22 +14,23 @@ use std::test::Fail;
 
 // The rounds of `least` on a line with its own vessel, or number, layer and spot of the fault.
 fn least_on<V: Graded>(
+    heap: Global,
     line: &FileLine,
     vessel: &V,
     row: &mut [u32],
     next: &mut [u32],
     budget: u64,
 ) -> Told {
-    told(least(line, vessel, row, next, budget))
+    told(least(heap, line, vessel, row, next, budget))
 }
 
 // The same of a file over a graded vessel; 99 stands for any other file.
-fn least_of(file: &[u8], row: &mut [u32], next: &mut [u32], budget: u64) -> Told {
+fn least_of(heap: Global, file: &[u8], row: &mut [u32], next: &mut [u32], budget: u64) -> Told {
     match FileLine::try_from(file) {
         Err(fault) => refused(fault),
         Ok(line) => match line.vessel() {
-            AnyVessel::OfLip(vessel) => least_on(&line, &vessel, row, next, budget),
-            AnyVessel::OfDrawn(vessel) => least_on(&line, &vessel, row, next, budget),
+            AnyVessel::OfLip(vessel) => least_on(heap, &line, &vessel, row, next, budget),
+            AnyVessel::OfDrawn(vessel) => least_on(heap, &line, &vessel, row, next, budget),
             AnyVessel::OfClosed(_) => (99, 0, 0),
         },
     }
@@ -41,27 +42,51 @@ fn least_fills_of_p_and_q(rt: HostRuntime) -> Result<(), Fail> {
     let mut row = [7u32; 3];
     let mut next = [8u32; 3];
     assert_eq!(rt;
-        least_of(&line_p(heap, Kind::Lip, 6, 0)?, &mut row, &mut next, 14),
+        least_of(
+            heap,
+            &line_p(heap, Kind::Lip, 6, 0)?,
+            &mut row,
+            &mut next,
+            14
+        ),
         (0, 0, 1)
     );
     assert!(rt; row == [0, 5, 7] && next == [0, 5, 8]);
     assert_eq!(rt;
-        least_of(&line_p(heap, Kind::Lip, 5, 0)?, &mut row, &mut next, 12),
+        least_of(
+            heap,
+            &line_p(heap, Kind::Lip, 5, 0)?,
+            &mut row,
+            &mut next,
+            12
+        ),
         (0, 0, 1)
     );
     assert!(rt; row == [0, 5, 7] && next == [0, 5, 8]);
     assert_eq!(rt;
-        least_of(&line_p(heap, Kind::Lip, 4, 0)?, &mut row, &mut next, 10),
+        least_of(
+            heap,
+            &line_p(heap, Kind::Lip, 4, 0)?,
+            &mut row,
+            &mut next,
+            10
+        ),
         (0, 0, 2)
     );
     assert!(rt; row == [NEVER, NEVER, 7] && next == [NEVER, NEVER, 8]);
     assert_eq!(rt;
-        least_of(&line_p(heap, Kind::Drawn, 6, 1)?, &mut row, &mut next, 14),
+        least_of(
+            heap,
+            &line_p(heap, Kind::Drawn, 6, 1)?,
+            &mut row,
+            &mut next,
+            14
+        ),
         (0, 0, 3)
     );
     assert!(rt; row == [NEVER, NEVER, 7] && next == [NEVER, NEVER, 8]);
     assert_eq!(rt;
-        least_of(&line_q(heap, Kind::Lip, 10)?, &mut row, &mut next, 22),
+        least_of(heap, &line_q(heap, Kind::Lip, 10)?, &mut row, &mut next, 22),
         (0, 0, 1)
     );
     assert!(rt; row == [0, 2, 7] && next == [0, 2, 8]);
@@ -75,14 +100,29 @@ fn budgets_and_short_rows(rt: HostRuntime) -> Result<(), Fail> {
     let mut row = [7u32; 2];
     let mut next = [8u32; 2];
     // one short of the rounds: row 2 and row 3 stay in the buffers
-    assert_eq!(rt; least_of(&file, &mut row, &mut next, 2), (20, 4, 2));
+    assert_eq!(rt;
+        least_of(rt.alloc(), &file, &mut row, &mut next, 2),
+        (20, 4, 2)
+    );
     assert!(rt; row == [NEVER, 6] && next == [NEVER, NEVER]);
-    assert_eq!(rt; least_of(&file, &mut row, &mut next, 3), (0, 0, 3));
-    assert_eq!(rt; least_of(&file, &mut row, &mut next, 0), (20, 4, 0));
+    assert_eq!(rt;
+        least_of(rt.alloc(), &file, &mut row, &mut next, 3),
+        (0, 0, 3)
+    );
+    assert_eq!(rt;
+        least_of(rt.alloc(), &file, &mut row, &mut next, 0),
+        (20, 4, 0)
+    );
     assert!(rt; row == [0, 0] && next == [0, 6]);
     let mut short = [7u32; 1];
-    assert_eq!(rt; least_of(&file, &mut row, &mut short, 9), (19, 4, 2));
-    assert_eq!(rt; least_of(&file, &mut short, &mut next, 9), (19, 4, 2));
+    assert_eq!(rt;
+        least_of(rt.alloc(), &file, &mut row, &mut short, 9),
+        (19, 4, 2)
+    );
+    assert_eq!(rt;
+        least_of(rt.alloc(), &file, &mut short, &mut next, 9),
+        (19, 4, 2)
+    );
     assert!(rt; short == [7]);
     Ok(())
 }
