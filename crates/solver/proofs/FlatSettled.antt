@@ -1,7 +1,6 @@
 -- What settles on a flat board settles on the board that was laid flat.
-use Rattle.std.proofs.Common.{◌≡◌, ℕ, ◌+◌, ◌-◌, ◌<◌, ◌≤◌, Bool, true, false, ltb, ◌⊎◌, ◌↔◌, List, length, get_or, Some, sym, refl, ap, ◌∙◌, subst, inl, inr, arith}
+use Rattle.std.proofs.Common.{◌≡◌, ℕ, ◌+◌, ◌-◌, ◌<◌, ◌≤◌, true, false, ◌↔◌, List, length, get_or, Some, sym, ap, ◌∙◌, subst, inl, inr, arith}
 use Rattle.std.proofs.lemmas.Bool.{cases_lt}
-use Rattle.std.specs.List.{slice_get}
 use Rattle.game.specs.declared.Edge.{Edge}
 use Rattle.game.specs.declared.Owner.TheVariants.{Ours, Theirs}
 use Rattle.game.specs.Game.{Game, WellFormed}
@@ -9,14 +8,14 @@ use Rattle.game.specs.Forced.{ForcesInto}
 use Rattle.game.proofs.Base.{some_inj}
 use Rattle.hopper.specs.Boards.{owner_at, step_at, count_at}
 use Rattle.hopper.proofs.Boards.{step_below, step_there}
-use Rattle.solver.specs.Entries.{Tells, KeptFrom}
-use Rattle.solver.specs.Forcing.{MarkedBelow, LeadsTo, ForcedMarks}
-use Rattle.solver.specs.Settling.{IsBest, IsDue, Settled}
+use Rattle.solver.specs.Entries.{KeptFrom}
+use Rattle.solver.specs.Forcing.{MarkedBelow, ForcedMarks}
+use Rattle.solver.specs.Settling.{IsBest, Settled}
 use Rattle.solver.specs.Flat.{Laid, moves_before, mark_led, IsHighest, IsLowest, IsFlatBest}
 use Rattle.solver.specs.declared.flat.FlatBoard.{FlatBoard}
 use Rattle.solver.proofs.Choosing.{each_forces, some_forces, some_there}
 use Rattle.solver.proofs.Settled.{settled_marks}
-use Rattle.solver.proofs.LaidFlat.{before_next, before_up}
+use Rattle.solver.proofs.LaidFlat.{before_next}
 
 -- a test of a number tells as the number does
 tells_less : (n r : ℕ) (P : Type 0) → ((n < r → P) × ((n < r → ⊥) → ¬ P)) → (n < r) ↔ P
@@ -47,38 +46,41 @@ module _ (g : Game) (w : WellFormed g) (f : FlatBoard) (laid : Laid g f) (marks 
   ours : owner_at (g.at p) ≡ Some Ours → (n : ℕ) → IsHighest f marks (get_or f.firsts.items p 0) (get_or f.firsts.items (p + 1) 0) n → IsBest g marks p n
   ours own n h r = tells_less n r (ForcesInto g (MarkedBelow marks r) p) (
     λ lt. each_forces g (MarkedBelow marks r) p own true (λ m less.
-      let v = some_there (step_at (g.at p) m) (step_there (g.at p) m less) in
-      let a = from in
-      let b = end in
-      let most = h.most (moves_before g p + m) (omega arith) (omega arith) in
-      let same = led m v.0 v.1 in
-      (v.0, v.1, omega arith)),
+        let v = some_there (step_at (g.at p) m) (step_there (g.at p) m less) in
+        let a = from in
+        let b = end in
+        let most = h.most (moves_before g p + m) (omega arith) (omega arith) in
+        let same = led m v.0 v.1 in
+        (v.0, v.1, omega arith)),
     λ not. each_forces g (MarkedBelow marks r) p own false (
-      let k = h.attained in
-      let v = move_of k.0 k.1 k.2 in
-      (v.0, step_below (g.at p) v.0 v.1 v.2, λ l.
-        let same : l.0 ≡ v.1 = some_inj (sym l.1 ∙ v.2) in
-        let less : get_or marks v.1.target 0 < r = subst (λ (e : Edge). get_or marks e.target 0 < r) same l.2 in
-        let x = v.3 in
-        let y = k.3 in
-        not (omega arith))),
+        let k = h.attained in
+        let v = move_of k.0 k.1 k.2 in (
+          v.0,
+          step_below (g.at p) v.0 v.1 v.2,
+          λ l.
+              let same : l.0 ≡ v.1 = some_inj (sym l.1 ∙ v.2) in
+              let less : get_or marks v.1.target 0 < r = subst (λ (e : Edge). get_or marks e.target 0 < r) same l.2 in
+              let x = v.3 in
+              let y = k.3 in
+              not (omega arith),
+        )),
   )
 
   theirs : owner_at (g.at p) ≡ Some Theirs → (n : ℕ) → IsLowest f marks (get_or f.firsts.items p 0) (get_or f.firsts.items (p + 1) 0) n → IsBest g marks p n
   theirs own n h r = tells_less n r (ForcesInto g (MarkedBelow marks r) p) (
     λ lt. some_forces g (MarkedBelow marks r) p own true (
-      let k = h.attained in
-      let v = move_of k.0 k.1 k.2 in
-      let x = v.3 in
-      let y = k.3 in
-      (v.0, (v.1, v.2, omega arith))),
+        let k = h.attained in
+        let v = move_of k.0 k.1 k.2 in
+        let x = v.3 in
+        let y = k.3 in
+        (v.0, (v.1, v.2, omega arith))),
     λ not. some_forces g (MarkedBelow marks r) p own false (λ m less l.
-      let a = from in
-      let b = end in
-      let least = h.least (moves_before g p + m) (omega arith) (omega arith) in
-      let same = led m l.0 l.1 in
-      let low = l.2 in
-      not (omega arith)),
+        let a = from in
+        let b = end in
+        let least = h.least (moves_before g p + m) (omega arith) (omega arith) in
+        let same = led m l.0 l.1 in
+        let low = l.2 in
+        not (omega arith)),
   )
 
   pub flat_best : (n : ℕ) → IsFlatBest f marks p n → IsBest g marks p n

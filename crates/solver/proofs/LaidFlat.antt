@@ -1,9 +1,8 @@
 -- Laying a board flat, place by place.
-use Rattle.std.proofs.Common.{◌≡◌, ℕ, zero, suc, ◌+◌, ◌-◌, ◌*◌, ◌<◌, ◌≤◌, List, ◌++◌, length, length-append, length-take-le, get_or, set, take, drop, Some, add-one, subst, sym, refl, ap, inl, inr, ◌∙◌, arith, below_more, get_or-set_other, get_or-set_same}
+use Rattle.std.proofs.Common.{◌≡◌, ℕ, zero, suc, ◌+◌, ◌-◌, ◌<◌, ◌≤◌, List, ◌++◌, length, length-take-le, get_or, set, take, drop, Some, add-one, subst, sym, refl, ap, inl, inr, ◌∙◌, arith, below_more, get_or-set_other, get_or-set_same}
 use Rattle.std.proofs.lemmas.Bool.{cases_lt}
 use Rattle.std.proofs.lemmas.List.{get_or_append_left, get_or-append_right, get_or-take}
 use borrow.Rule.Slice.PartMut.{put_mid}
-use Rattle.game.specs.declared.Edge.{Edge}
 use Rattle.game.specs.Game.{Game, WellFormed, sum_below}
 use Rattle.game.specs.declared.Owner.{Owner}
 use Rattle.hopper.specs.Boards.{count_at, step_at}
@@ -64,11 +63,11 @@ module _ (g : Game) where
     below_put limit low new j lt = elim (cases_lt j a) [
       | inl b ↦ (let h = low j (omega arith) in let s = before_part a k old part room long j b in omega arith)
       | inr b ↦ (
-        let next = before_next n in
-        let l : j - a < k = omega arith in
-        let h = new (j - a) (omega arith) in
-        let s : get_or (put_mid a k old part) j 0 ≡ get_or part (j - a) 0 = ap (λ (i : ℕ). get_or (put_mid a k old part) i 0) (omega arith) ∙ in_part a k old part room long (j - a) l in
-        omega arith)
+          let next = before_next n in
+          let l : j - a < k = omega arith in
+          let h = new (j - a) (omega arith) in
+          let s : get_or (put_mid a k old part) j 0 ≡ get_or part (j - a) 0 = ap (λ (i : ℕ). get_or (put_mid a k old part) i 0) (omega arith) ∙ in_part a k old part room long (j - a) l in
+          omega arith)
     ]
 
   module _ (w : WellFormed g) where

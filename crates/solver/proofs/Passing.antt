@@ -1,5 +1,5 @@
 -- One pass over a flat board, move by move and place by place.
-use Rattle.std.proofs.Common.{◌≡◌, ℕ, ◌+◌, ◌<◌, ◌≤◌, ◌⊎◌, min, max, List, get_or, subst, inl, inr, sym, refl, arith, below_more}
+use Rattle.std.proofs.Common.{◌≡◌, ℕ, ◌+◌, ◌≤◌, min, max, List, get_or, inl, inr, arith, below_more}
 use Rattle.std.proofs.lemmas.Bool.{cases_lt}
 use Rattle.solver.specs.Entries.{never}
 use Rattle.solver.specs.Settling.{IsDue, Settled}

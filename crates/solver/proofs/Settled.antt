@@ -1,9 +1,8 @@
 -- Marks that settle are the forced marks.
-use Rattle.std.proofs.Common.{◌≡◌, ℕ, zero, suc, ◌+◌, ◌<◌, ◌≤◌, min, ◌⊎◌, List, length, get_or, Some, sym, refl, ap, ◌∙◌, inl, inr, arith}
+use Rattle.std.proofs.Common.{◌≡◌, ℕ, zero, suc, ◌<◌, ◌≤◌, List, get_or, Some, sym, refl, ap, ◌∙◌, inl, inr, arith}
 use native.Mathlib.Decide.{ℕ_discrete}
 use Rattle.game.specs.Game.{Game, WellFormed}
-use Rattle.game.specs.Fill.{IsLeast}
-use Rattle.game.specs.Forced.{ForcesInto, Forces, IsForced}
+use Rattle.game.specs.Forced.{Forces, IsForced}
 use Rattle.game.proofs.Forced.{into_map, forced_settles}
 use Rattle.solver.specs.Entries.{never, as_entry, entries, KeptFrom}
 use Rattle.solver.specs.Forcing.{MarkedBelow, ForcedMarks}
@@ -23,11 +22,11 @@ module _ (g : Game) (w : WellFormed g) (t : ℕ) (inside : t < g.places) (marks 
   to_forced (suc i) p le lt m = elim (ℕ_discrete p t) [
     | yes e ↦ inl e
     | no ne ↦ inr (
-      let d = (s.due p lt).elsewhere ne in
-      let e = d.2 in
-      let z = low i (omega arith) in
-      let less : d.0 < suc i = omega arith in
-      into_map g w (MarkedBelow marks (suc i)) (Forces g t i) (λ q lt' m'. to_forced i q (omega arith) lt' m') p ((d.1 (suc i)).0 less))
+        let d = (s.due p lt).elsewhere ne in
+        let e = d.2 in
+        let z = low i (omega arith) in
+        let less : d.0 < suc i = omega arith in
+        into_map g w (MarkedBelow marks (suc i)) (Forces g t i) (λ q lt' m'. to_forced i q (omega arith) lt' m') p ((d.1 (suc i)).0 less))
   ]
 
   to_marked : (i p : ℕ) → p < g.places → Forces g t i p → MarkedBelow marks (suc i) p
@@ -37,10 +36,10 @@ module _ (g : Game) (w : WellFormed g) (t : ℕ) (inside : t < g.places) (marks 
     | no ne ↦ elim f [
       | inl e ↦ absurd (ne e)
       | inr n ↦ (
-        let d = (s.due p lt).elsewhere ne in
-        let e = d.2 in
-        let less : d.0 < suc i = (d.1 (suc i)).1 (into_map g w (Forces g t i) (MarkedBelow marks (suc i)) (λ q lt' f'. to_marked i q lt' f') p n) in
-        omega arith)
+          let d = (s.due p lt).elsewhere ne in
+          let e = d.2 in
+          let less : d.0 < suc i = (d.1 (suc i)).1 (into_map g w (Forces g t i) (MarkedBelow marks (suc i)) (λ q lt' f'. to_marked i q lt' f') p n) in
+          omega arith)
     ]
   ]
 
@@ -57,8 +56,8 @@ module _ (g : Game) (w : WellFormed g) (t : ℕ) (inside : t < g.places) (marks 
   exact p lt = elim (s.most p lt) [
     | inl e ↦ rw e (λ j f. let m = to_marked rounds p lt (forced_settles g w t rounds stops j p lt f) in let z = low rounds (omega arith) in omega arith)
     | inr le ↦ (let z = low rounds (omega arith) in
-      rw (entry_small (get_or marks p 0) (omega arith))
-      (to_forced (get_or marks p 0) p (omega arith) lt (omega arith), λ j less f. let m = to_marked j p lt f in omega arith))
+        rw (entry_small (get_or marks p 0) (omega arith))
+        (to_forced (get_or marks p 0) p (omega arith) lt (omega arith), λ j less f. let m = to_marked j p lt f in omega arith))
   ]
 
   bound : (k n : ℕ) → k < g.places → entries marks k ≡ Some n → n ≤ rounds

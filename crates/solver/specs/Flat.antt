@@ -2,7 +2,6 @@
 use Rattle.std.specs.Prelude.{◌≡◌, ℕ, ◌+◌, ◌<◌, ◌≤◌, ◌⊎◌, List, length, Some, slice_index}
 use Rattle.std.specs.List.{slice_get}
 use Rattle.game.specs.declared.Edge.{Edge}
-use Rattle.game.specs.declared.Owner.{Owner}
 use Rattle.game.specs.declared.Owner.TheVariants.{Ours, Theirs}
 use Rattle.game.specs.Game.{Game, sum_below}
 use Rattle.hopper.specs.Boards.{owner_at, step_at, count_at}

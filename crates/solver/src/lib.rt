@@ -2,18 +2,18 @@
 #![tactic(auto)]
 
 mod buffer;
-mod flat;
-mod laying;
 mod changing;
 mod edge_table;
+mod flat;
 pub mod forcing;
+mod laying;
 pub mod marking;
 mod origins;
 pub mod planning;
 pub mod rows;
+mod scratch;
 mod settling;
 mod spreading;
-mod scratch;
 mod tracing;
 pub mod unfolded;
 

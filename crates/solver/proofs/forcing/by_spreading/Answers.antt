@@ -1,5 +1,5 @@
 -- What is left to show of `by_spreading`.
-use Rattle.std.proofs.Common.{◌≡◌, ◌<◌, ◌≤◌, ℕ, List, ◌++◌, length, drop, Some, None, Option, IfSome, arith, rules}
+use Rattle.std.proofs.Common.{◌≡◌, ◌<◌, ℕ, List, ◌++◌, length, drop, Some, None, Option, IfSome, rules}
 use Rattle.game.specs.Game.{Game}
 use Rattle.solver.specs.Entries.{KeptFrom}
 use Rattle.solver.specs.Settling.{Settled}
@@ -26,7 +26,7 @@ returns-clause-marked g c =
       same_rest = λ k le. rw places (past_front game.places k front old long le);
     } in
     go game flat old marks (λ rounds s few. forced_if_settled game formed flat laid c.args.target marks rounds c.requires.target old kept s few)
-        c.settled.result c.settled.ensures.settles c.settled.ensures.few
+    c.settled.result c.settled.ensures.settles c.settled.ensures.few
   where
     go : (game : Game) (flat : FlatBoard) (old marks : List ℕ) {target : ℕ}
         → ((rounds : ℕ) → Settled (IsFlatBest flat marks) target (length flat.owners.items) marks rounds → rounds < length flat.owners.items → ForcedMarks game target old marks rounds)

@@ -1,6 +1,5 @@
 -- What is left to show of `lay_firsts`.
-use Rattle.std.proofs.Common.{◌≡◌, ◌+◌, ◌*◌, ◌≤◌, arith, rules}
-use Rattle.solver.specs.Flat.{moves_before}
+use Rattle.std.proofs.Common.{arith, rules}
 use Rattle.solver.proofs.LaidFlat.{before_next, firsts_put, few_moves}
 use Rattle.solver.proofs.laying.lay_firsts.Goals as goal
 

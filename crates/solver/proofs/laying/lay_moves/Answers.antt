@@ -1,7 +1,5 @@
 -- What is left to show of `lay_moves`.
 use Rattle.std.proofs.Common.{◌≡◌, ◌+◌, ◌-◌, ◌≤◌, length, get_or, arith, rules}
-use Rattle.hopper.specs.Boards.{count_at}
-use Rattle.solver.specs.Flat.{moves_before}
 use Rattle.solver.proofs.LaidFlat.{before_next, before_up, targets_put, below_put}
 use Rattle.solver.proofs.laying.lay_moves.Goals as goal
 

@@ -1,5 +1,5 @@
 -- What is left to show of `lay_place`.
-use Rattle.std.proofs.Common.{◌≤◌, arith, rules}
+use Rattle.std.proofs.Common.{rules}
 use Rattle.solver.proofs.LaidFlat.{few_moves}
 use Rattle.solver.proofs.laying.lay_place.Goals as goal
 

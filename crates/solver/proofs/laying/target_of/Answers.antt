@@ -1,5 +1,5 @@
 -- What is left to show of `target_of`.
-use Rattle.std.proofs.Common.{is_some, sym, ap, ◌∙◌}
+use Rattle.std.proofs.Common.{sym, ◌∙◌}
 use Rattle.hopper.proofs.Boards.{step_inside}
 use Rattle.solver.proofs.laying.target_of.Goals as goal
 

@@ -1,5 +1,5 @@
 -- What is left to show of `highest`.
-use Rattle.std.proofs.Common.{◌≤◌, arith, rules}
+use Rattle.std.proofs.Common.{arith, rules}
 use Rattle.solver.proofs.Passing.{highest_step}
 use Rattle.solver.proofs.settling.highest.Goals as goal
 

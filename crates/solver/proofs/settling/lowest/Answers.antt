@@ -1,5 +1,5 @@
 -- What is left to show of `lowest`.
-use Rattle.std.proofs.Common.{◌≤◌, arith, rules}
+use Rattle.std.proofs.Common.{arith, rules}
 use Rattle.solver.proofs.Passing.{lowest_step}
 use Rattle.solver.proofs.settling.lowest.Goals as goal
 

@@ -1,5 +1,5 @@
 -- What is left to show of `settled`.
-use Rattle.std.proofs.Common.{◌≤◌, arith, rules}
+use Rattle.std.proofs.Common.{rules}
 use Rattle.solver.specs.Flat.{IsFlatBest}
 use Rattle.solver.proofs.Passing.{settled_never, settled_number}
 use Rattle.solver.proofs.settling.settled.Goals as goal

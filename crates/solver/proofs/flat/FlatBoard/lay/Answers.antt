@@ -1,5 +1,5 @@
 -- What is left to show of `lay`.
-use Rattle.std.proofs.Common.{◌≡◌, ◌+◌, length, arith}
+use Rattle.std.proofs.Common.{arith}
 use Rattle.solver.proofs.LaidFlat.{flat_some, flat_there, flat_inside}
 use Rattle.solver.proofs.flat.FlatBoard.lay.Goals as goal
 
