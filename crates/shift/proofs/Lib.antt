@@ -4,3 +4,4 @@ pub mod Ordered
 pub mod Served
 pub mod Answered
 pub mod WholeFate
+pub mod Reports

@@ -10,8 +10,10 @@ mod good;
 mod moving;
 mod opening;
 mod ordering;
+pub mod plain;
 
 pub use good::marked_good;
+pub use plain::PlainShift;
 
 // A shift: the number that its opener chose, the place and the level where it stands, and the move of its open order.
 #[derive(Drop)]
