@@ -1,0 +1,2 @@
+-- The proofs of this crate that others cite.
+pub mod OnLines

@@ -1,0 +1,4 @@
+-- The definitions of this crate.
+pub mod Told
+pub mod Lines
+pub mod Shifts
