@@ -1,2 +1,3 @@
 -- The proofs of this crate that others cite.
 pub mod OnLines
+pub mod Filled

@@ -4,4 +4,5 @@
 mod files;
 mod fills;
 mod numbers;
+mod sheets;
 mod shifts;
