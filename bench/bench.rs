@@ -244,6 +244,8 @@ struct Log {
     marks: Vec<u32>,
     other: Vec<u8>,
     shift: Shift,
+    // The number of the last answer of a call that a file is shown to.
+    answered: u32,
 }
 
 impl Log {
@@ -267,7 +269,7 @@ impl Log {
             marks.truncate(marks.len() - 1 - dice.below(marks.len() as u64) as usize);
         }
         let other = if dice.once_in(6) { lines::damaged(dice) } else { lines::small(dice).file() };
-        Log { line, file, marks, other, shift: Shift::default() }
+        Log { line, file, marks, other, shift: Shift::default(), answered: 0 }
     }
 
     // Mostly the file of the log, at times another.
@@ -309,6 +311,11 @@ impl Log {
 
     // The number of the next call: mostly one that fits where the shift stands.
     fn next_call(&self, dice: &mut Dice) -> usize {
+        // where the shift cannot go on, another is opened, sooner or later
+        let stuck = matches!(self.answered, 16..=18 | 23 | 27 | 29 | 31 | 33);
+        if stuck && self.shift.ordered == 0 && dice.once_in(2) {
+            return 5;
+        }
         if dice.once_in(5) {
             return 5 + dice.below(6) as usize;
         }
@@ -341,7 +348,7 @@ impl Log {
         let wanted = answer.map_or(before, |opened| left(before, opened, &answer));
         let told = (file, &self.marks, number, place, fill);
         tally.same(5, seed, &told, (library, shift), (fault_of(answer), wanted));
-        self.shift = shift;
+        (self.shift, self.answered) = (shift, library.number);
     }
 
     fn compare_order(&mut self, dice: &mut Dice, tally: &mut Tally, seed: u64) {
@@ -354,7 +361,7 @@ impl Log {
         let answer = after.order(file, marks);
         let wanted = (answer.unwrap_or(BEFORE), left(before, after, &answer));
         tally.same(6, seed, &(file, marks, before), (library, (mv, shift)), (fault_of(answer), wanted));
-        self.shift = shift;
+        (self.shift, self.answered) = (shift, library.number);
     }
 
     fn compare_done(&mut self, dice: &mut Dice, tally: &mut Tally, seed: u64) {
@@ -366,7 +373,7 @@ impl Log {
         let answer = after.done(file, number, place, mv);
         let told = (file, before, number, place, mv);
         tally.same(7, seed, &told, (library, shift), (fault_of(answer), left(before, after, &answer)));
-        self.shift = shift;
+        (self.shift, self.answered) = (shift, library.number);
     }
 
     fn compare_withdrawn(&mut self, dice: &mut Dice, tally: &mut Tally, seed: u64) {
@@ -389,7 +396,7 @@ impl Log {
         let mut after = shift_of(&before);
         let answer = after.arrived(file, mv);
         tally.same(9, seed, &(file, before, mv), (library, shift), (fault_of(answer), left(before, after, &answer)));
-        self.shift = shift;
+        (self.shift, self.answered) = (shift, library.number);
     }
 
     fn compare_close(&mut self, tally: &mut Tally, seed: u64) {
@@ -451,7 +458,7 @@ fn same_big<T: PartialEq + Debug>(name: &str, library: T, reference: T) {
 }
 
 // Moves that all whole rows together look at, above which they are not made.
-const MOST_LOOKS: u64 = 6_000_000_000;
+const MOST_LOOKS: u64 = 1_000_000_000;
 
 // Takes the times of `least` on a line; answers the ratio.
 fn times_of_least(line: &Big) -> f64 {
@@ -468,11 +475,14 @@ fn times_of_least(line: &Big) -> f64 {
     };
     let (changed, wanted) = run(Rows::Changed);
     let rounds = wanted.0.unwrap_or(0);
-    let whole = (rounds * (numbers.moves as u64) < MOST_LOOKS).then(|| {
-        let (time, left) = run(Rows::Whole);
-        same_big("whole rows and changed rows", left, wanted.clone());
-        time
-    });
+    let by = |rows_by: Rows| {
+        (rounds * (numbers.moves as u64) < MOST_LOOKS).then(|| {
+            let (time, left) = run(rows_by);
+            same_big("one way of the reference and another", left, wanted.clone());
+            time
+        })
+    };
+    let (whole, tight) = (by(Rows::Whole), by(Rows::Tight));
     let (mut row, mut next) = before.clone();
     let mut answer = Ok(0);
     let library = fastest(|| answer = hopper::least(file, &mut row, &mut next, budget));
@@ -480,11 +490,12 @@ fn times_of_least(line: &Big) -> f64 {
     let better = whole.map_or(changed, |whole| whole.min(changed));
     let ratio = library / better;
     println!(
-        "| {} | {rounds} | {} | {} | {} | {ratio:.2} |",
+        "| {} | {rounds} | {} | {} | {} | {ratio:.2} | {} |",
         line.name,
         milliseconds(Some(library)),
         milliseconds(whole),
-        milliseconds(Some(changed))
+        milliseconds(Some(changed)),
+        milliseconds(tight)
     );
     ratio
 }
@@ -510,7 +521,7 @@ fn times_of_mark(line: &Big) -> f64 {
     same_big(&line.name, (answer.map_err(|fault| fault.number), marks), wanted);
     let ratio = library / by_fills;
     println!(
-        "| {} | {rounds} | {} | {} | {} | {ratio:.2} |",
+        "| {} | {rounds} | {} | {} | {ratio:.2} | {} |",
         line.name,
         milliseconds(Some(library)),
         milliseconds(Some(by_fills)),
@@ -539,12 +550,12 @@ fn times(tally: &mut Tally, wanted: &str) {
     let least: Vec<Big> = lines::big_rows().into_iter().filter(|line| line.name.contains(wanted)).collect();
     let mark: Vec<Big> = lines::big_marks().into_iter().filter(|line| line.name.contains(wanted)).collect();
     println!("Times are in milliseconds, reading of the file included; each is the fastest of several runs.\n");
-    println!("least: the ratio is the library's time to the better of the reference's two ways\n");
-    println!("| line | rounds | library | whole rows | changed rows | ratio |\n|---|---|---|---|---|---|");
+    println!("least: the ratio is the library's time to the better of whole rows and changed rows\n");
+    println!("| line | rounds | library | whole rows | changed rows | ratio | for comparison: whole rows in arrays of 256 |\n|---|---|---|---|---|---|---|");
     let worst = least.iter().map(times_of_least).fold(0.0, f64::max);
     println!("\nworst ratio of least: {worst:.2}\n");
-    println!("mark: the ratio is the library's time to the worklist over lists of fills; the other way lists the moves of the line only\n");
-    println!("| line | rounds | library | lists of fills | lists of moves | ratio |\n|---|---|---|---|---|---|");
+    println!("mark: the ratio is the library's time to the worklist with a list of the fills that lead to each fill\n");
+    println!("| line | rounds | library | worklist | ratio | for comparison: a worklist with lists of the line's moves only |\n|---|---|---|---|---|---|");
     let worst = mark.iter().map(times_of_mark).fold(0.0, f64::max);
     println!("\nworst ratio of mark: {worst:.2}\n");
     for line in least.iter().chain(&mark) {

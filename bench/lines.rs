@@ -139,8 +139,8 @@ pub fn big_rows() -> Vec<Big> {
     vec![
         lip("random", random(1, 256, 16, (-10_000, 10_000), (-10_000, 10_000)), MOST_TOP),
         drawn("random", random(2, 256, 16, (-9_000, 10_000), (-9_000, 10_000)), MOST_TOP, 100),
-        lip("drifting", random(3, 256, 16, (-400, 0), (-9, 600)), MOST_TOP),
-        drawn("drifting", random(4, 256, 16, (-390, 10), (1, 610)), MOST_TOP, 10),
+        lip("drifting", random(3, 256, 16, (-400, 0), (-9, 600)), 400_000),
+        drawn("drifting", random(4, 256, 16, (-400, 2), (-9, 600)), 400_000, 10),
         lip("leaking", random(5, 256, 16, (-9, -3), (-3, 0)), 100_000),
         drawn("leaking", random(6, 256, 16, (-3, 0), (0, 3)), 100_000, 3),
         lip("ring, a litre a turn", ring(16, 0), 10_000),
