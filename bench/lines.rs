@@ -149,7 +149,7 @@ pub fn big_rows() -> Vec<Big> {
         drawn("ring, a litre a turn", ring(1, 1), 200_000, 1),
         lip("random", random(7, 64, 64, (-300, 20), (-20, 300)), 1_023),
         drawn("random", random(8, 64, 64, (-300, 25), (-15, 300)), 1_023, 5),
-        lip("drifting", random(9, 64, 64, (-40, 0), (0, 40)), 1_023),
+        lip("drifting", random(9, 64, 64, (-40, -1), (0, 40)), 1_023),
         lip("leaking", random(10, 64, 64, (-9, -1), (-1, 0)), 1_023),
         lip("one place of ours", one(false, |m| -1 - m), 65_535),
         lip("one place of theirs", one(true, |m| m % 97 - 1), 65_535),
