@@ -10,6 +10,9 @@ use game::Owner;
 use hopper::Board;
 use std::alloc::Global;
 
+// The most moves of a place.
+const MOST_MOVES: usize = 4096;
+
 // Who chooses at the place.
 fn owner_of<B: Board>(board: &B, place: u32) -> Owner
     requires { place < (B.Board.game board.now).places }
@@ -76,10 +79,14 @@ fn lay_moves<B: Board>(board: &B, firsts: &[u32], targets: &mut [u32])
     ensures laid { TargetsLaid (B.Board.game board.now) (B.Board.game board.now).places targets.new }
     ensures inside { AllBelow (B.Board.game board.now).places (length targets.new) targets.new }
 {
+    // each place is laid beside the targets first: what is asked of the board can then not be among what is written, and is asked once for all moves of a place
+    let mut row = [0; MOST_MOVES];
     for place in 0..board.places() {
         let from = firsts[place as usize] as usize;
         let end = firsts[place as usize + 1] as usize;
-        lay_place(board, place, &mut targets[from..end]);
+        let part = &mut row[..end - from];
+        lay_place(board, place, part);
+        targets[from..end].copy_from_slice(part);
     }
 }
 
