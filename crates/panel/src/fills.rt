@@ -15,14 +15,14 @@ use std::alloc::Global;
 
 // Marks the fills of a line with its own vessel.
 pub(crate) fn mark_line<'x>(
-    _heap: Global,
+    heap: Global,
     line: &'x FileLine,
     vessel: &'x AnyVessel,
     marks: &mut [u32],
 ) -> Result<u32, Fault>
     ensures { MarkPromises (game_of (held line.now)) (any_top vessel.now) (any_table vessel.now) marks.old marks.new result }
 {
-    mark(line, vessel, marks)
+    mark(heap, line, vessel, marks)
 }
 
 fn mark_file(heap: Global, file: &[u8], marks: &mut [u32]) -> Result<u32, Fault>
@@ -46,7 +46,7 @@ pub extern "C" fn hopper_mark(
 
 // Finds the least fills of a line over a vessel with rows.
 pub(crate) fn least_over<V: Graded>(
-    _heap: Global,
+    heap: Global,
     line: &FileLine,
     vessel: &V,
     row: &mut [u32],
@@ -55,7 +55,7 @@ pub(crate) fn least_over<V: Graded>(
 ) -> Result<u64, Fault>
     ensures { LeastPromises (game_of (held line.now)) (V.Vessel.top vessel.now) (V.Vessel.table vessel.now) row.old row.new next.old next.new budget result }
 {
-    least(line, vessel, row, next, budget)
+    least(heap, line, vessel, row, next, budget)
 }
 
 fn least_line(
