@@ -13,6 +13,7 @@ pub mod planning;
 pub mod rows;
 mod scratch;
 mod settling;
+mod sources;
 mod spreading;
 mod tracing;
 pub mod unfolded;

@@ -1,7 +1,6 @@
 -- What is left to show of `lay_moves`.
 use Rattle.std.proofs.Common.{◌≡◌, ◌+◌, ◌-◌, ◌≤◌, List, ℕ, length, get_or, subst, sym, arith, rules}
-use Rattle.hopper.specs.Boards.{count_at}
-use Rattle.solver.specs.Flat.{moves_before, PlaceLaid, AllBelow}
+use Rattle.solver.specs.Flat.{PlaceLaid, AllBelow}
 use Rattle.solver.proofs.LaidFlat.{before_next, before_up, few_moves, targets_put, below_put}
 use Rattle.solver.proofs.laying.lay_moves.Goals as goal
 
