@@ -1,5 +1,5 @@
 -- Numbers that part the levels.
-use Rattle.std.proofs.Common.{◌≡◌, ℕ, ◌≤◌, ℤ, Some, None, Option, unwrap_or, sym, refl, ap, subst, inl, inr, arith}
+use Rattle.std.proofs.Common.{◌≡◌, ℕ, ◌<◌, ◌≤◌, ℤ, Some, None, Option, unwrap_or, sym, refl, ap, subst, inl, inr, arith}
 use Rattle.game.specs.Limits.{most_top}
 use Rattle.game.specs.Vessel.{Table, Keeps}
 use Rattle.game.specs.Fill.{IsLeast}
@@ -37,3 +37,7 @@ module _ (top : ℕ) (fits : top ≤ most_top) where
 
     pub parts_need : (wanted : ℕ) (a : ℤ) (n : ℕ) → n ≤ top → Parts top (Reaches t wanted a) n → IsNeed top t wanted a (Some n)
     parts_need wanted a n le s = (le, s.above, λ c lt r. s.below c lt (omega arith) r)
+
+    -- an entry above the top is never reached
+    pub above_parts : (wanted : ℕ) (a : ℤ) → top < wanted → Parts top (Reaches t wanted a) never
+    above_parts wanted a high = parts_none (Reaches t wanted a) (λ c le r. let in_top = keeps.within c a r.0 r.1 in let up = r.2 in omega arith)

@@ -5,7 +5,7 @@ ghost use Rattle.solver.specs.Changing.{Listed, Flagged, IsWorklist, KeepsFlags,
 ghost use Rattle.solver.specs.Least.{Parts};
 ghost use Rattle.solver.specs.RowSteps.{Enough};
 
-use super::buffer::Entries;
+use super::edge_table::EdgeTable;
 use hopper::{Board, Graded, Vessel};
 
 // Gives the row the next one's entries at the places of the list.
@@ -62,7 +62,7 @@ pub(crate) fn add_all(list: &mut [u32], flags: &mut [bool]) -> usize
 
 // Makes again the entries of the places of the list, takes their flags, and lists the places where they differ from the row's: answers how many these are.
 pub(crate) fn remake<B: Board, V: Graded>(
-    board: &B,
+    table: &EdgeTable<B>,
     vessel: &V,
     row: &[u32],
     next: &mut [u32],
@@ -71,28 +71,24 @@ pub(crate) fn remake<B: Board, V: Graded>(
     flags: &mut [bool],
     changed: &mut [u32],
 ) -> usize
-    requires row_room { (B.Board.game board.now).places ≤ length row.now }
-    requires next_room { (B.Board.game board.now).places ≤ length next.old }
+    requires row_room { (B.Board.game table.now.board.now).places ≤ length row.now }
+    requires next_room { (B.Board.game table.now.board.now).places ≤ length next.old }
     requires list_room { count ≤ length list.now }
     requires changed_room { count ≤ length changed.old }
-    requires inside { (i : ℕ) → i < count → slice_index list.now i < (B.Board.game board.now).places }
-    requires flags_room { (B.Board.game board.now).places ≤ length flags.old }
-    requires same { (k : ℕ) → k < (B.Board.game board.now).places → slice_index next.old k ≡ slice_index row.now k }
-    ensures made { (i : ℕ) → i < count → Parts (V.Vessel.top vessel.now) (Step (B.Board.game board.now) (V.Vessel.table vessel.now) (Enough row.now) (slice_index list.now i)) (slice_index next.new (slice_index list.now i)) }
-    ensures others { (k : ℕ) → k < (B.Board.game board.now).places → (slice_index next.new k ≡ slice_index row.now k) ⊎ Parts (V.Vessel.top vessel.now) (Step (B.Board.game board.now) (V.Vessel.table vessel.now) (Enough row.now) k) (slice_index next.new k) }
-    ensures past { (k : ℕ) → (B.Board.game board.now).places ≤ k → slice_index next.new k ≡ slice_index next.old k }
-    ensures changes { ListsChanges (B.Board.game board.now).places row.now next.new changed.new result }
+    requires inside { (i : ℕ) → i < count → slice_index list.now i < (B.Board.game table.now.board.now).places }
+    requires flags_room { (B.Board.game table.now.board.now).places ≤ length flags.old }
+    requires same { (k : ℕ) → k < (B.Board.game table.now.board.now).places → slice_index next.old k ≡ slice_index row.now k }
+    ensures made { (i : ℕ) → i < count → Parts (V.Vessel.top vessel.now) (Step (B.Board.game table.now.board.now) (V.Vessel.table vessel.now) (Enough row.now) (slice_index list.now i)) (slice_index next.new (slice_index list.now i)) }
+    ensures others { (k : ℕ) → k < (B.Board.game table.now.board.now).places → (slice_index next.new k ≡ slice_index row.now k) ⊎ Parts (V.Vessel.top vessel.now) (Step (B.Board.game table.now.board.now) (V.Vessel.table vessel.now) (Enough row.now) k) (slice_index next.new k) }
+    ensures past { (k : ℕ) → (B.Board.game table.now.board.now).places ≤ k → slice_index next.new k ≡ slice_index next.old k }
+    ensures changes { ListsChanges (B.Board.game table.now.board.now).places row.now next.new changed.new result }
     ensures unflagged { (p : ℕ) → Flagged flags.new p → Flagged flags.old p × ¬ Listed list.now count p }
 {
-    let entries = Entries {
-        board,
-        entries: row,
-    };
     let mut kept = 0;
     for i in 0..count {
         let place = list[i];
         let at = place as usize;
-        let entry = entries.next_entry(vessel, place);
+        let entry = table.next_entry(vessel, row, place);
         flags[at] = false;
         if entry != row[at] {
             next[at] = entry;

@@ -8,6 +8,7 @@ mod flat;
 pub mod forcing;
 mod laying;
 pub mod marking;
+mod needing;
 mod origins;
 pub mod planning;
 pub mod rows;

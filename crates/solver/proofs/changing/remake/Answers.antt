@@ -9,7 +9,7 @@ use Rattle.solver.proofs.changing.remake.Goals.{then-entry-row, else-entry-row}
 
 pub loop-i-preserved : goal.loop-i-preserved
 loop-i-preserved g c =
-    let game = g.B.Board.game c.args.board.now in
+    let game = g.B.Board.game c.args.table.now.board.now in
     let row = c.args.row.now in
     let l = c.loop-i in
     let q = slice_index c.args.list.now l.i in

@@ -7,6 +7,6 @@ use Rattle.solver.proofs.changing.remake.Given as goal
 
 abbrev pub invariant-loop-i : goal.invariant-loop-i
 invariant-loop-i g l =
-    let game = g.B.Board.game l.fn.board in
+    let game = g.B.Board.game l.fn.table.board.now in
     Remade game.places (λ p. Parts (g.V.Vessel.top l.fn.vessel) (Step game (g.V.Vessel.table l.fn.vessel) (Enough l.fn.row) p)) l.fn.row l.list l.initial.next
     l.initial.flags l.i l.next l.flags l.changed l.kept
