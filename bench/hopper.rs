@@ -57,6 +57,9 @@ pub struct Order {
     pub mv: u32,
 }
 
+// As in C: no bytes between the fields, and none after them.
+const _: () = assert!(size_of::<Fault>() == 16 && size_of::<Row>() == 20 && size_of::<Shift>() == 20);
+
 unsafe extern "C" {
     pub fn hopper_check(file: *const u8, len: usize) -> Fault;
     pub fn hopper_places(file: *const u8, len: usize, places: *mut u32, fills_plus_one: *mut u64) -> Fault;
