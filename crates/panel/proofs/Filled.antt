@@ -1,6 +1,6 @@
 -- Rows that are filled one by one.
 use Rattle.std.proofs.Common.{◌≡◌, ℕ, ◌+◌, ◌-◌, ◌<◌, ◌≤◌, List, ◌++◌, length, take, drop, slice_set, get_or, get_or-set_other, get_or-set_same, below_more, sym, ap, ◌∙◌, subst, arith}
-use Rattle.std.proofs.lemmas.List.{length-set, length-append, length-take-le, get_or-append_right, get_or_append_left, get_or-drop}
+use Rattle.std.proofs.lemmas.List.{length-set, length-take-le, get_or-append_right, get_or_append_left, get_or-drop}
 use Rattle.std.proofs.Math.Seq.{length_front}
 use Rattle.panel.specs.declared.sheets.RowNumbers.{RowNumbers}
 use Rattle.panel.specs.Sheets.{no_row, RowsFilled}

@@ -1,5 +1,5 @@
 -- From calls on a line and its own vessel to calls on the bytes of its file.
-use Rattle.std.proofs.Common.{◌≡◌, ℕ, List, is_ok, Ok, Err, Result, sym, ap, ◌∙◌, subst}
+use Rattle.std.proofs.Common.{◌≡◌, ℕ, List, is_ok, Ok, Result, sym, ap, ◌∙◌, subst}
 use Rattle.std.proofs.lemmas.Bool.{false≢true}
 use Rattle.game.specs.Game.{Game}
 use Rattle.game.specs.Vessel.{Table}

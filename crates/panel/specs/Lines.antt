@@ -1,5 +1,5 @@
 -- What the calls on the fills of a line answer, and all that `mark` and `least` promise of their answers.
-use Rattle.std.specs.Prelude.{◌≡◌, ℕ, ◌+◌, List, Ok, Err, Result, IfOk, ⊤}
+use Rattle.std.specs.Prelude.{◌≡◌, ℕ, ◌+◌, List, Err, Result, IfOk, ⊤}
 use Rattle.game.specs.Game.{Game}
 use Rattle.game.specs.Forced.{spill}
 use Rattle.game.specs.Vessel.{Table}

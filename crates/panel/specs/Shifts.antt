@@ -1,5 +1,5 @@
 -- The numbers of a shift, and what the calls on them answer.
-use Rattle.std.specs.Prelude.{◌≡◌, ℕ, ◌==◌, cond, List, Some, None, Ok, Err, Option, Result, ⊤}
+use Rattle.std.specs.Prelude.{◌≡◌, ℕ, ◌==◌, cond, List, Some, None, Option, Result, ⊤}
 use Rattle.hopper.specs.declared.Fault.{Fault}
 use Rattle.hopper.specs.Refusing.{if_accepted, Answers}
 use Rattle.lineformat.specs.Games.{game_of, table_of}

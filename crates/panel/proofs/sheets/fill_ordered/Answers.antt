@@ -1,5 +1,5 @@
 -- What is left to show of `fill_ordered`.
-use Rattle.std.proofs.Common.{◌≡◌, length, arith, rules}
+use Rattle.std.proofs.Common.{arith, rules}
 use Rattle.hopper.specs.Any.{any_top, any_table}
 use Rattle.lineformat.specs.Games.{game_of}
 use Rattle.linefile.specs.Held.{held}

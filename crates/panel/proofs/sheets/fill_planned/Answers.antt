@@ -1,5 +1,5 @@
 -- What is left to show of `fill_planned`.
-use Rattle.std.proofs.Common.{◌≡◌, length, arith, rules}
+use Rattle.std.proofs.Common.{arith, rules}
 use Rattle.lineformat.specs.Games.{game_of}
 use Rattle.linefile.specs.Held.{held}
 use Rattle.panel.specs.Sheets.{PlannedRow}
