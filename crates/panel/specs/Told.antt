@@ -25,9 +25,9 @@ written (Err f) old = old
 abbrev pub Says : {A : Type 0} → FaultNumbers → (Result A Fault → Type 0) → Type 0
 Says n P = (r : Result _ Fault) × (n ≡ fault_numbers r) × P r
 
--- and its value is written over the old one where it accepts
-abbrev pub Tells : {A : Type 0} → FaultNumbers → A → A → (Result A Fault → Type 0) → Type 0
-Tells n old new P = Says n (λ r. (new ≡ written r old) × P r)
+-- and the value of that answer is written over the old one where it accepts
+abbrev pub Writes : {A : Type 0} → FaultNumbers → A → A → (Result A Fault → Type 0) → Type 0
+Writes n old new P = Says n (λ r. (new ≡ written r old) × P r)
 
 -- what a call on a file answers: where reading refuses the file, that refusal, with Q; else P of the line that the file spells
 pub record OnFile {A : Type 0} (file : List ℕ) (P : Line → Result A Fault → Type 0) (Q : Type 0) (r : Result A Fault) : Type 0 where

@@ -2,7 +2,8 @@
 ghost use Rattle.std.specs.Prelude.{◌≡◌};
 ghost use Rattle.hopper.specs.Refusing.{verdict};
 ghost use Rattle.lineformat.specs.Checks.{read_checks};
-ghost use Rattle.panel.specs.Told.{fault_numbers, Tells};
+ghost use Rattle.lineformat.specs.Laws.{AcceptsJustTheWritten};
+ghost use Rattle.panel.specs.Told.{fault_numbers, Writes};
 ghost use Rattle.panel.specs.Lines.{FileCounted};
 
 use super::numbers::{FaultNumbers, tell, told};
@@ -27,8 +28,10 @@ fn count_file(file: &[u8]) -> Result<(u32, u64), Fault>
 }
 
 #[unsafe(no_mangle)]
+#[tactic(auto, using(lineformat::proofs::Laws::file_law))]
 pub extern "C" fn hopper_check(file: &[u8]) -> FaultNumbers
-    ensures { result ≡ fault_numbers (verdict (read_checks file.now)) }
+    ensures answer { result ≡ fault_numbers (verdict (read_checks file.now)) }
+    ensures law { AcceptsJustTheWritten file.now }
 {
     told(check_file(file))
 }
@@ -39,7 +42,7 @@ pub extern "C" fn hopper_places(
     places: &mut u32,
     fills_plus_one: &mut u64,
 ) -> FaultNumbers
-    ensures { Tells result (places.old, fills_plus_one.old) (places.new, fills_plus_one.new) (FileCounted file.now) }
+    ensures { Writes result (places.old, fills_plus_one.old) (places.new, fills_plus_one.new) (FileCounted file.now) }
 {
     let mut counts = (*places, *fills_plus_one);
     let answer = tell(count_file(file), &mut counts);

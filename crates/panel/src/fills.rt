@@ -3,7 +3,7 @@ ghost use Rattle.std.specs.Prelude.{◌≡◌};
 ghost use Rattle.hopper.specs.Any.{any_top, any_table};
 ghost use Rattle.lineformat.specs.Games.{game_of, table_of};
 ghost use Rattle.linefile.specs.Held.{held};
-ghost use Rattle.panel.specs.Told.{Tells};
+ghost use Rattle.panel.specs.Told.{Writes};
 ghost use Rattle.panel.specs.Lines.{MarkPromises, FileMarked, LeastPromises, OnGraded, FileLeast};
 
 use super::numbers::{FaultNumbers, tell};
@@ -39,7 +39,7 @@ pub extern "C" fn hopper_mark(
     marks: &mut [u32],
     rounds: &mut u32,
 ) -> FaultNumbers
-    ensures { Tells result rounds.old rounds.new (FileMarked file.now marks.old marks.new) }
+    ensures { Writes result rounds.old rounds.new (FileMarked file.now marks.old marks.new) }
 {
     tell(mark_file(heap, file, marks), rounds)
 }
@@ -100,7 +100,7 @@ pub extern "C" fn hopper_least(
     budget: u64,
     rounds: &mut u64,
 ) -> FaultNumbers
-    ensures { Tells result rounds.old rounds.new (FileLeast file.now row.old row.new next.old next.new budget) }
+    ensures { Writes result rounds.old rounds.new (FileLeast file.now row.old row.new next.old next.new budget) }
 {
     tell(least_file(heap, file, row, next, budget), rounds)
 }

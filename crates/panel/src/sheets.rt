@@ -3,7 +3,7 @@ ghost use Rattle.std.specs.Prelude.{◌≡◌, ◌<◌, ◌≤◌, length};
 ghost use Rattle.hopper.specs.Any.{any_top, any_table};
 ghost use Rattle.lineformat.specs.Games.{game_of};
 ghost use Rattle.linefile.specs.Held.{held};
-ghost use Rattle.panel.specs.Told.{Tells};
+ghost use Rattle.panel.specs.Told.{Writes};
 ghost use Rattle.panel.specs.Sheets.{HeightSays, RowSays, RowsFilled, PlannedRow, PlannedSheet, MoveAt, OrderedRow, OrderedSheet, SheetAnswers, FileSheet};
 
 use super::fills::{least_over, mark_line};
@@ -188,7 +188,7 @@ pub extern "C" fn hopper_sheet(
     rows: &mut [RowNumbers],
     rounds: &mut u64,
 ) -> FaultNumbers
-    ensures { Tells result rounds.old rounds.new (FileSheet file.now marks.old marks.new rows.old rows.new) }
+    ensures { Writes result rounds.old rounds.new (FileSheet file.now marks.old marks.new rows.old rows.new) }
 {
     tell(sheet_file(heap, file, marks, rows), rounds)
 }

@@ -1,8 +1,9 @@
 // Shifts by their numbers.
 ghost use Rattle.std.specs.Prelude.{◌≡◌};
 ghost use Rattle.hopper.specs.Refusing.{if_accepted};
+ghost use Rattle.shift.specs.Fate.{StartingFillTellsTheWholeFate};
 ghost use Rattle.shift.specs.Plain.{shift_with};
-ghost use Rattle.panel.specs.Told.{Says, Tells};
+ghost use Rattle.panel.specs.Told.{Says, Writes};
 ghost use Rattle.panel.specs.Shifts.{shift_named, shift_numbers, FileOpened, FileOrdered, FileDone, NumbersWithdrawn, FileArrived, NumbersClosed};
 
 use super::numbers::{FaultNumbers, tell, told};
@@ -77,6 +78,7 @@ fn open_file(
 }
 
 #[unsafe(no_mangle)]
+#[tactic(auto, using(shift::proofs::WholeFate::starting_fill_tells_the_whole_fate))]
 pub extern "C" fn hopper_open(
     file: &[u8],
     marks: &[u32],
@@ -85,7 +87,8 @@ pub extern "C" fn hopper_open(
     fill: u32,
     out: &mut ShiftNumbers,
 ) -> FaultNumbers
-    ensures { Says result (FileOpened file.now marks.now number place fill out.old out.new) }
+    ensures answer { Says result (FileOpened file.now marks.now number place fill out.old out.new) }
+    ensures fate { StartingFillTellsTheWholeFate }
 {
     told(open_file(file, marks, number, place, fill, out))
 }
@@ -106,7 +109,7 @@ pub extern "C" fn hopper_order(
     shift: &mut ShiftNumbers,
     mv: &mut u32,
 ) -> FaultNumbers
-    ensures { Tells result mv.old mv.new (FileOrdered file.now marks.now shift.old shift.new) }
+    ensures { Writes result mv.old mv.new (FileOrdered file.now marks.now shift.old shift.new) }
 {
     tell(order_file(file, marks, shift), mv)
 }
@@ -181,7 +184,7 @@ pub extern "C" fn hopper_close(
     place: &mut u32,
     level: &mut u32,
 ) -> FaultNumbers
-    ensures { Tells result (place.old, level.old) (place.new, level.new) (NumbersClosed shift.now) }
+    ensures { Writes result (place.old, level.old) (place.new, level.new) (NumbersClosed shift.now) }
 {
     let mut at = (*place, *level);
     let answer = tell(shift.plain().close(), &mut at);
