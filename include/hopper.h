@@ -133,8 +133,8 @@ hopper_fault hopper_mark(const uint8_t *file, size_t len, uint32_t *marks, size_
 hopper_fault hopper_sheet(const uint8_t *file, size_t len, uint32_t *marks, size_t marks_len, struct hopper_row *rows, size_t rows_len,
                           uint64_t *rounds);
 
-/* SHIFTS. `marks` are those that hopper_mark left, and are believed entry by entry; there may be more than are needed. A shift that is
- * opened, ordered and reported with one file and its marks is never refused with 33 on an order, nor with 31. */
+/* SHIFTS. `marks` are those that hopper_mark left, and are believed entry by entry; there may be more than are needed. Where all calls on a
+ * shift since hopper_open are shown the same file and its marks, none of them is refused with 31 or with 33. */
 
 /* Opens a shift at a place and a fill.
  * Refusals: 1 to 13; 16 and 17 as in hopper_mark; 18 no such place; 23 the fill is above the top; 27 the fill is not good.
