@@ -61,6 +61,7 @@ fn lay_firsts<B: Board>(board: &B, firsts: &mut [u32])
 }
 
 // Lays the targets of one place's moves.
+#[inline(always)]
 fn lay_place<B: Board>(board: &B, place: u32, targets: &mut [u32])
     requires place { place < (B.Board.game board.now).places }
     requires room { length targets.old ≡ count_at ((B.Board.game board.now).at place) }
