@@ -15,3 +15,4 @@ pub mod RowByRow
 pub mod Following
 pub mod Remaking
 pub mod ByChange
+pub mod Refreshing

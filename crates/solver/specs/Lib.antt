@@ -11,3 +11,4 @@ pub mod Planning
 pub mod EdgeTable
 pub mod Origins
 pub mod Changing
+pub mod Needs

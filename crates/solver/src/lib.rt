@@ -1,6 +1,7 @@
 // The solvers: who can force a run where, how long fills hold, the least fills that hold for ever, and the moves that keep them.
 #![tactic(auto)]
 
+mod arcs;
 mod buffer;
 mod changing;
 mod edge_table;
@@ -9,6 +10,7 @@ pub mod forcing;
 mod laying;
 pub mod marking;
 mod needing;
+mod needs;
 mod origins;
 pub mod planning;
 pub mod rows;

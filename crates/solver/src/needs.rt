@@ -1,0 +1,79 @@
+// What each move needs, kept up to date by what changed.
+ghost use Rattle.std.specs.Prelude.{◌≡◌, ℕ, ◌+◌, ◌<◌, ◌≤◌, ◌⊎◌, length, Some, slice_index};
+ghost use Rattle.std.specs.List.{slice_get};
+ghost use Rattle.game.specs.declared.Edge.{Edge};
+ghost use Rattle.game.specs.Rows.{Reaches};
+ghost use Rattle.solver.specs.Least.{Parts};
+ghost use Rattle.solver.specs.Needs.{RightNeed, RightNeeds, RefreshesPart, RightFor};
+
+use super::NEVER;
+use super::arcs::Arcs;
+use game::Edge;
+use hopper::{Graded, Vessel};
+
+// The lowest level from which the move leads to the wanted level or above, or never.
+fn need_of<V: Graded>(vessel: &V, wanted: u32, edge: Edge) -> u32
+    ensures { Parts (V.Vessel.top vessel.now) (Reaches (V.Vessel.table vessel.now) wanted edge.amount) result }
+{
+    vessel.need(wanted, edge.amount).unwrap_or(NEVER)
+}
+
+// Writes what each move needs for its target's entry, where the row has one.
+pub(crate) fn fill_needs<V: Graded>(vessel: &V, row: &[u32], edges: &[Edge], needs: &mut [u32])
+    requires targets { (k : ℕ) (e : Edge) → slice_get edges.now k ≡ Some e → e.target < length row.now }
+    requires room { length edges.now ≤ length needs.old }
+    ensures { RightNeeds (V.Vessel.top vessel.now) (V.Vessel.table vessel.now) row.now edges.now needs.new }
+{
+    for k in 0..edges.len() {
+        let edge = edges[k];
+        needs[k] = need_of(vessel, row[edge.target as usize], edge);
+    }
+}
+
+impl Arcs {
+    // Writes again what the move in this slot needs for the wanted level, if it leads to the target.
+    fn refresh_slot<V: Graded>(
+        &self,
+        vessel: &V,
+        edges: &[Edge],
+        target: u32,
+        wanted: u32,
+        slot: usize,
+        needs: &mut [u32],
+    )
+        requires { length edges.now ≤ length needs.old }
+        ensures here { slot < length self.now.numbers.items → (e : Edge) → slice_get edges.now (slice_index self.now.numbers.items slot) ≡ Some e → e.target ≡ target → Parts (V.Vessel.top vessel.now) (Reaches (V.Vessel.table vessel.now) wanted e.amount) (slice_index needs.new (slice_index self.now.numbers.items slot)) }
+        ensures rest { (k : ℕ) → (slice_index needs.new k ≡ slice_index needs.old k) ⊎ RightFor (V.Vessel.top vessel.now) (V.Vessel.table vessel.now) target wanted edges.now needs.new k }
+    {
+        let Some(&k) = self.numbers.get(slot) else {
+            return;
+        };
+        if k >= edges.len() || edges[k].target != target {
+            return;
+        }
+        needs[k] = need_of(vessel, wanted, edges[k]);
+    }
+
+    // Writes again what each move to the target needs for its entry.
+    pub(crate) fn refresh<V: Graded>(
+        &self,
+        vessel: &V,
+        row: &[u32],
+        edges: &[Edge],
+        target: u32,
+        needs: &mut [u32],
+    )
+        requires target { target < length row.now }
+        requires begins { target + 1 < length self.now.begins.items }
+        requires room { length edges.now ≤ length needs.old }
+        ensures part { RefreshesPart (V.Vessel.top vessel.now) (V.Vessel.table vessel.now) row.now edges.now self.now.begins.items self.now.numbers.items self.now.slots.items target needs.new }
+        ensures rest { (k : ℕ) → (slice_index needs.new k ≡ slice_index needs.old k) ⊎ RightNeed (V.Vessel.top vessel.now) (V.Vessel.table vessel.now) row.now edges.now needs.new k }
+    {
+        let wanted = row[target as usize];
+        let begin = self.begins[target as usize];
+        let end = self.begins[target as usize + 1];
+        for slot in begin..end {
+            self.refresh_slot(vessel, edges, target, wanted, slot, needs);
+        }
+    }
+}
