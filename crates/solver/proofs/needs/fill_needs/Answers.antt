@@ -1,5 +1,5 @@
 -- What is left to show of `fill_needs`.
-use Rattle.std.proofs.Common.{◌≡◌, ℕ, pos, get_or, Some, subst, arith, below_more}
+use Rattle.std.proofs.Common.{◌≡◌, pos, Some, subst, arith, below_more}
 use Rattle.std.specs.List.{slice_get}
 use Rattle.std.proofs.lemmas.Option.{get_or_from_slice_get}
 use Rattle.game.specs.declared.Edge.{Edge}

@@ -1,9 +1,8 @@
 -- What is left to show of `refresh`.
-use Rattle.std.proofs.Common.{◌≡◌, ℕ, ◌+◌, ◌<◌, ◌≤◌, ◌⊎◌, rules, Some, slice_index, sym, ap, ◌∙◌, subst, inl, inr, refl, arith}
+use Rattle.std.proofs.Common.{◌≡◌, ℕ, ◌+◌, ◌<◌, ◌≤◌, ◌⊎◌, Some, slice_index, sym, ◌∙◌, subst, inl, inr, refl, arith}
 use Rattle.std.specs.List.{slice_get}
 use Rattle.std.proofs.lemmas.Bool.{cases_lt}
 use Rattle.std.proofs.lemmas.List.{get_or_read}
-use Rattle.game.specs.declared.Edge.{Edge}
 use Rattle.game.specs.Rows.{Reaches}
 use Rattle.solver.specs.Least.{Parts}
 use Rattle.solver.specs.RowSteps.{Serves}
