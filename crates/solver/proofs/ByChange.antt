@@ -45,6 +45,10 @@ module _ (places : ℕ) (row next list : List ℕ) (n : ℕ) (c : ListsChanges p
       | no ne ↦ (let l = c.all p lt ne in subst (λ (k : ℕ). slice_index new k ≡ slice_index next k) l.is (taken l.index l.below))
     ]
 
+    -- a place has its entry as before, or is listed
+    pub moved : (p : ℕ) → p < places → (slice_index new p ≡ slice_index row p) ⊎ Listed list n p
+    moved p lt = elim (ℕ_discrete (slice_index next p) (slice_index row p)) [ yes e ↦ inl (taken_over p lt ∙ e) | no ne ↦ inr (c.all p lt ne) ]
+
     pub left_over : (k : ℕ) → places ≤ k → slice_index new k ≡ slice_index row k
     left_over k le = rest k (λ l. let lt = c.inside l.index l.below in let e = l.is in omega arith)
 

@@ -1,12 +1,15 @@
 -- Needs written again.
-use Rattle.std.proofs.Common.{◌≡◌, ℕ, ◌<◌, List, length, set, slice_index, Some, sym, ap, ◌∙◌, subst, get_or-set_other, get_or-set_same}
+use Rattle.std.proofs.Common.{◌≡◌, ℕ, ◌<◌, ◌⊎◌, List, length, set, slice_index, Some, sym, ap, ◌∙◌, subst, inl, inr, get_or-set_other, get_or-set_same}
 use Rattle.std.specs.List.{slice_get}
 use native.Mathlib.Decide.{ℕ_discrete}
 use Rattle.game.specs.declared.Edge.{Edge}
 use Rattle.game.specs.Vessel.{Table}
 use Rattle.game.specs.Rows.{Reaches}
+use Rattle.hopper.proofs.Boards.{nth_below}
+use Rattle.solver.specs.Changing.{Listed}
+use Rattle.solver.specs.Origins.{IsArc, AllArcs}
 use Rattle.solver.specs.Least.{Parts}
-use Rattle.solver.specs.Needs.{RightNeed, RightFor}
+use Rattle.solver.specs.Needs.{RightNeed, RightNeeds, RefreshesPart, RightFor}
 use Rattle.solver.specs.RowSteps.{Serves}
 
 module _ (top : ℕ) (t : Table) (row : List ℕ) (edges : List Edge) where
@@ -28,3 +31,37 @@ module _ (top : ℕ) (t : Table) (row : List ℕ) (edges : List Edge) where
   right_by needs q wanted k is f e here =
       let w = f e here in
       subst (λ (n : ℕ). Parts top (Reaches t n e.amount) (slice_index needs k)) (is ∙ ap (slice_index row) (sym w.0)) w.1
+
+  -- a part that was written again still is, after other needs were
+  pub part_still : (begins numbers slots : List ℕ) (q : ℕ) (needs new : List ℕ) → ((k : ℕ) → (slice_index new k ≡ slice_index needs k) ⊎ RightNeed top t row edges new k)
+      → RefreshesPart top t row edges begins numbers slots q needs → RefreshesPart top t row edges begins numbers slots q new
+  part_still begins numbers slots q needs new kept part k e arc is leads = elim (kept k) [
+    | inl same ↦ subst (Parts top (Serves t row e)) (sym same) (part k e arc is leads)
+    | inr right ↦ right e is
+  ]
+
+  -- needs stay or are right, over two changes
+  pub rest_on : (old needs new : List ℕ) → ((k : ℕ) → (slice_index needs k ≡ slice_index old k) ⊎ RightNeed top t row edges needs k)
+      → ((k : ℕ) → (slice_index new k ≡ slice_index needs k) ⊎ RightNeed top t row edges new k)
+      → (k : ℕ) → (slice_index new k ≡ slice_index old k) ⊎ RightNeed top t row edges new k
+  rest_on old needs new before after k = elim (after k) [
+    | inl same ↦ elim (before k) [ inl first ↦ inl (same ∙ first) | inr right ↦ inr (λ e is. subst (Parts top (Serves t row e)) (sym same) (right e is)) ]
+    | inr right ↦ inr right
+  ]
+
+-- with the parts of all changes written again the needs are right for the new row
+pub refreshed : (top : ℕ) (t : Table) (row new : List ℕ) (edges : List Edge) (begins numbers slots needs needs' changed : List ℕ) (n places : ℕ)
+    → ((k : ℕ) (e : Edge) → slice_get edges k ≡ Some e → e.target < places)
+    → AllArcs (length edges) edges begins numbers slots
+    → ((q : ℕ) → q < places → (slice_index new q ≡ slice_index row q) ⊎ Listed changed n q)
+    → RightNeeds top t row edges needs
+    → ((i : ℕ) → i < n → RefreshesPart top t new edges begins numbers slots (slice_index changed i) needs')
+    → ((k : ℕ) → (slice_index needs' k ≡ slice_index needs k) ⊎ RightNeed top t new edges needs' k)
+    → RightNeeds top t new edges needs'
+refreshed top t row new edges begins numbers slots needs needs' changed n places targets arcs moved before parts rest k e is = elim (rest k) [
+  | inr right ↦ right e is
+  | inl same ↦ elim (moved e.target (targets k e is)) [
+    | inl stays ↦ subst (λ (x : ℕ). Parts top (Reaches t x e.amount) (slice_index needs' k)) (sym stays) (subst (Parts top (Serves t row e)) (sym same) (before k e is))
+    | inr l ↦ parts l.index l.below k e (subst (λ (q : ℕ). IsArc begins numbers slots q k) (sym l.is) (arcs k e (nth_below edges k e is) is)) is (sym l.is)
+  ]
+]

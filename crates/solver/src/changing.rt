@@ -3,6 +3,7 @@ ghost use Rattle.std.specs.Prelude.{◌≡◌, ℕ, ◌+◌, ◌<◌, ◌≤◌,
 ghost use Rattle.game.specs.Fill.{Step};
 ghost use Rattle.solver.specs.Changing.{Listed, Flagged, IsWorklist, KeepsFlags, ListsChanges};
 ghost use Rattle.solver.specs.Least.{Parts};
+ghost use Rattle.solver.specs.Needs.{RightNeeds};
 ghost use Rattle.solver.specs.RowSteps.{Enough};
 
 use super::edge_table::EdgeTable;
@@ -65,12 +66,15 @@ pub(crate) fn remake<B: Board, V: Graded>(
     table: &EdgeTable<B>,
     vessel: &V,
     row: &[u32],
+    needs: &[u32],
     next: &mut [u32],
     list: &[u32],
     count: usize,
     flags: &mut [bool],
     changed: &mut [u32],
 ) -> usize
+    requires needs_room { length table.now.edges.items ≤ length needs.now }
+    requires right { RightNeeds (V.Vessel.top vessel.now) (V.Vessel.table vessel.now) row.now table.now.edges.items needs.now }
     requires row_room { (B.Board.game table.now.board.now).places ≤ length row.now }
     requires next_room { (B.Board.game table.now.board.now).places ≤ length next.old }
     requires list_room { count ≤ length list.now }
@@ -88,7 +92,7 @@ pub(crate) fn remake<B: Board, V: Graded>(
     for i in 0..count {
         let place = list[i];
         let at = place as usize;
-        let entry = table.next_entry(vessel, row, place);
+        let entry = table.next_entry(vessel, row, needs, place);
         flags[at] = false;
         if entry != row[at] {
             next[at] = entry;

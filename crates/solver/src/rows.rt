@@ -5,6 +5,7 @@ ghost use Rattle.solver.specs.RowSteps.{NextRow, keeps_changing, RowsAnswer};
 
 use super::buffer::Entries;
 use super::changing::{add_all, remake, take_over};
+use super::needs::fill_needs;
 use super::origins::Origins;
 use super::scratch::Scratch;
 use hopper::{Board, Fault, Graded, Layer, Refusal, Vessel, check, pass};
@@ -75,7 +76,9 @@ fn changed_rows<B: Board, V: Graded>(
     changed: &mut [u32],
     list: &mut [u32],
     flags: &mut [bool],
+    needs: &mut [u32],
 ) -> Result<u64, Fault>
+    requires needs_room { length origins.now.table.edges.items ≤ length needs.old }
     requires row_room { (B.Board.game origins.now.table.board.now).places ≤ length row.old }
     requires next_room { (B.Board.game origins.now.table.board.now).places ≤ length next.old }
     requires flags { (B.Board.game origins.now.table.board.now).places ≡ length flags.old }
@@ -87,16 +90,18 @@ fn changed_rows<B: Board, V: Graded>(
     let count = flags.len();
     row[..count].fill(0);
     next[..count].fill(0);
+    fill_needs(vessel, row, &table.edges, needs);
     let all = add_all(list, flags);
-    let mut changes = remake(table, vessel, row, next, list, all, flags, changed);
+    let mut changes = remake(table, vessel, row, needs, next, list, all, flags, changed);
     let mut rounds = 0;
     while changes > 0 {
         if rounds == budget {
             return Err(keeps_changing(budget));
         }
         take_over(row, next, changed, changes);
+        origins.refresh_all(vessel, row, changed, changes, needs);
         let again = origins.list_again(changed, changes, list, flags);
-        changes = remake(table, vessel, row, next, list, again, flags, changed);
+        changes = remake(table, vessel, row, needs, next, list, again, flags, changed);
         rounds += 1;
     }
     Ok(rounds)
@@ -115,10 +120,10 @@ fn made_rows<B: Board, V: Graded>(
     requires next_room { (B.Board.game board.now).places ≤ length next.old }
     ensures { RowsAnswer (B.Board.game board.now) (V.Vessel.top vessel.now) (V.Vessel.table vessel.now) row.old row.new next.old next.new budget result }
 {
-    let (Some(origins), Some(mut scratch)) = (
-        Origins::new(heap, board),
-        Scratch::new(heap, board.places()),
-    ) else {
+    let Some(origins) = Origins::new(heap, board) else {
+        return whole_rows(board, vessel, row, next, budget);
+    };
+    let Some(mut scratch) = Scratch::new(heap, board.places(), origins.table.edges.len()) else {
         return whole_rows(board, vessel, row, next, budget);
     };
     changed_rows(
@@ -130,6 +135,7 @@ fn made_rows<B: Board, V: Graded>(
         &mut scratch.changed,
         &mut scratch.list,
         &mut scratch.flags,
+        &mut scratch.needs,
     )
 }
 

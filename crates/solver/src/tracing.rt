@@ -1,11 +1,12 @@
 // From the places that changed back to those with a move to one of them.
-ghost use Rattle.std.specs.Prelude.{◌≡◌, ℕ, ◌<◌, ◌≤◌, length, IfSome, slice_index};
+ghost use Rattle.std.specs.Prelude.{◌≡◌, ℕ, ◌<◌, ◌≤◌, ◌⊎◌, length, IfSome, slice_index};
 ghost use Rattle.solver.specs.Changing.{Flagged, IsWorklist, KeepsFlags};
+ghost use Rattle.solver.specs.Needs.{RightNeed, RefreshesPart};
 ghost use Rattle.solver.specs.Origins.{IsSource, FlagsSources};
 
 use super::changing::{add_all, add_place};
 use super::origins::Origins;
-use hopper::Board;
+use hopper::{Board, Graded, Vessel};
 
 impl<B: Board> Origins<'_, B> {
     // Puts the sources of the place into the list, and answers the new count, or nothing where the list is full.
@@ -93,5 +94,27 @@ impl<B: Board> Origins<'_, B> {
             return count;
         }
         add_all(list, flags)
+    }
+
+    // Writes again what each move to a place of the list needs.
+    pub(crate) fn refresh_all<V: Graded>(
+        &self,
+        vessel: &V,
+        row: &[u32],
+        changed: &[u32],
+        changes: usize,
+        needs: &mut [u32],
+    )
+        requires changes { changes ≤ length changed.now }
+        requires inside { (i : ℕ) → i < changes → slice_index changed.now i < (B.Board.game self.now.table.board.now).places }
+        requires row_room { (B.Board.game self.now.table.board.now).places ≤ length row.now }
+        requires room { length self.now.table.edges.items ≤ length needs.old }
+        ensures parts { (i : ℕ) → i < changes → RefreshesPart (V.Vessel.top vessel.now) (V.Vessel.table vessel.now) row.now self.now.table.edges.items self.now.arcs.begins.items self.now.arcs.numbers.items self.now.arcs.slots.items (slice_index changed.now i) needs.new }
+        ensures rest { (k : ℕ) → (slice_index needs.new k ≡ slice_index needs.old k) ⊎ RightNeed (V.Vessel.top vessel.now) (V.Vessel.table vessel.now) row.now self.now.table.edges.items needs.new k }
+    {
+        let edges = self.table.edges.as_slice();
+        for i in 0..changes {
+            self.arcs.refresh(vessel, row, edges, changed[i], needs);
+        }
     }
 }

@@ -1,14 +1,17 @@
 -- What is left to show of `changed_rows`.
 use Rattle.std.proofs.Common.{◌≡◌, ℕ, ◌<◌, ◌≤◌, List, ◌++◌, length, take, drop, replicate, slice_index, sym, ◌∙◌, subst, add-one, arith, rules}
 use Rattle.std.proofs.lemmas.List.{length-replicate}
+use Rattle.game.specs.declared.Edge.{Edge}
 use Rattle.game.specs.Fill.{Step}
 use Rattle.solver.specs.Changing.{Flagged}
 use Rattle.solver.specs.Least.{Parts}
+use Rattle.solver.specs.Needs.{RightNeeds}
 use Rattle.solver.specs.RowSteps.{Enough, NextRow}
 use Rattle.solver.proofs.Entries.{past_front, filled_front}
+use Rattle.solver.proofs.Refreshing.{refreshed}
 use Rattle.solver.proofs.Remaking.{unchanged}
 use Rattle.solver.proofs.RowByRow.{Running, started_at, gone_on_at, next_steps, first_repeated, repeated_least, repeated_parts, still_changing}
-use Rattle.solver.proofs.ByChange.{all_right, none_changed, some_changed, taken_over, left_over, targets_same}
+use Rattle.solver.proofs.ByChange.{all_right, none_changed, some_changed, taken_over, moved, left_over, targets_same}
 use Rattle.solver.proofs.rows.changed_rows.Goals as goal
 
 pub loop-changes-init : goal.loop-changes-init
@@ -37,6 +40,7 @@ loop-changes-init g c =
       started_at game (g.B.Board.formed board) top t (g.V.Vessel.keeps vessel) old spare row next zero kept made (search rules) (search rules),
       c.remake-changes.ensures.changes,
       λ p f. (let w = c.remake-changes.ensures.unflagged p f in w.1 (c.add_all-all.ensures.after.listed p w.0)),
+      subst (λ (xs : List Edge). RightNeeds top t row xs c.fill_needs.new.needs) c.deref.ensures.value c.fill_needs.ensures,
     )
 
 pub returns-then-rounds-budget : goal.returns-then-rounds-budget
@@ -141,4 +145,26 @@ loop-changes-preserved g c =
           (gone_on_at game formed top t keeps old spare l.row l.next row next l.rounds run other taken kept step (search rules) (search rules)),
       made.ensures.changes,
       λ p f. (let w = made.ensures.unflagged p f in w.1 (again.ensures.after.listed p w.0)),
+      refreshed top t l.row row origins.table.edges.items origins.arcs.begins.items origins.arcs.numbers.items origins.arcs.slots.items l.needs c.refresh_all.new.needs l.changed
+          l.changes game.places origins.targets origins.numbered
+          (moved game.places l.row l.next l.changed l.changes lists row c.take_over.ensures.taken c.take_over.ensures.rest) l.invariant.4 c.refresh_all.ensures.parts
+          c.refresh_all.ensures.rest,
     )
+
+pub remake-changes-requires-clause-right : goal.remake-changes-requires-clause-right
+remake-changes-requires-clause-right g c =
+    let top = g.V.Vessel.top c.args.vessel.now in
+    let t = g.V.Vessel.table c.args.vessel.now in
+    let row : List ℕ = c.fill.new.self ++ drop (length c.args.flags.now) c.args.row.now in
+    subst (λ (xs : List Edge). RightNeeds top t row xs c.fill_needs.new.needs) c.deref.ensures.value c.fill_needs.ensures
+
+pub remake-changes-requires-in-loop-changes-clause-right : goal.remake-changes-requires-in-loop-changes-clause-right
+remake-changes-requires-in-loop-changes-clause-right g c =
+    let origins = c.args.origins.now in
+    let game = g.B.Board.game origins.table.board.now in
+    let arcs = origins.arcs in
+    let l = c.loop-changes in
+    refreshed (g.V.Vessel.top c.args.vessel.now) (g.V.Vessel.table c.args.vessel.now) l.row c.take_over.new.row origins.table.edges.items arcs.begins.items arcs.numbers.items
+    arcs.slots.items l.needs c.refresh_all.new.needs l.changed l.changes game.places origins.targets origins.numbered
+    (moved game.places l.row l.next l.changed l.changes l.invariant.2 c.take_over.new.row c.take_over.ensures.taken c.take_over.ensures.rest)
+    l.invariant.4 c.refresh_all.ensures.parts c.refresh_all.ensures.rest

@@ -1,6 +1,7 @@
 -- Invariants and measures of `changed_rows`.
 use Rattle.std.proofs.Common.{ℕ, ◌-◌, ◌≤◌}
 use Rattle.solver.specs.Changing.{Flagged, ListsChanges}
+use Rattle.solver.specs.Needs.{RightNeeds}
 use Rattle.solver.proofs.RowByRow.{Running}
 use Rattle.solver.proofs.rows.changed_rows.Given as goal
 
@@ -12,6 +13,7 @@ invariant-loop-changes g l =
     × Running game (g.B.Board.formed board) (g.V.Vessel.top l.vessel) (g.V.Vessel.table l.vessel) (g.V.Vessel.keeps l.vessel) l.fn.row l.fn.next l.row l.next l.rounds
     × ListsChanges game.places l.row l.next l.changed l.changes
     × ((p : ℕ) → ¬ Flagged l.flags p)
+    × RightNeeds (g.V.Vessel.top l.vessel) (g.V.Vessel.table l.vessel) l.row l.fn.origins.table.edges.items l.needs
 
 abbrev pub decreases-loop-changes : goal.decreases-loop-changes
 decreases-loop-changes g l = l.budget - l.rounds
