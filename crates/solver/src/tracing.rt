@@ -70,10 +70,11 @@ impl<B: Board> Origins<'_, B> {
                 count = count.saturating_add(end.saturating_sub(*begin));
             }
         }
-        count < sources.places.len() / 2
+        count < sources.begins.len()
     }
 
     // Lists and flags the places whose entries may change after those of the changed places did, and answers how many they are.
+    #[inline(never)]
     pub(crate) fn list_again(
         &self,
         changed: &[u32],
