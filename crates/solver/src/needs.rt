@@ -30,30 +30,30 @@ pub(crate) fn fill_needs<V: Graded>(vessel: &V, row: &[u32], edges: &[Edge], nee
     }
 }
 
-impl Arcs {
-    // Writes again what the move in this slot needs for the wanted level, if it leads to the target.
-    fn refresh_slot<V: Graded>(
-        &self,
-        vessel: &V,
-        edges: &[Edge],
-        target: u32,
-        wanted: u32,
-        slot: usize,
-        needs: &mut [u32],
-    )
-        requires { length edges.now ≤ length needs.old }
-        ensures here { slot < length self.now.numbers.items → (e : Edge) → slice_get edges.now (slice_index self.now.numbers.items slot) ≡ Some e → e.target ≡ target → Parts (V.Vessel.top vessel.now) (Reaches (V.Vessel.table vessel.now) wanted e.amount) (slice_index needs.new (slice_index self.now.numbers.items slot)) }
-        ensures rest { (k : ℕ) → (slice_index needs.new k ≡ slice_index needs.old k) ⊎ RightFor (V.Vessel.top vessel.now) (V.Vessel.table vessel.now) target wanted edges.now needs.new k }
-    {
-        let Some(&k) = self.numbers.get(slot) else {
-            return;
-        };
-        if k >= edges.len() || edges[k].target != target {
-            return;
-        }
-        needs[k] = need_of(vessel, wanted, edges[k]);
+// Writes again what the move in this slot needs for the wanted level, if it leads to the target.
+fn refresh_slot<V: Graded>(
+    vessel: &V,
+    numbers: &[usize],
+    edges: &[Edge],
+    target: u32,
+    wanted: u32,
+    slot: usize,
+    needs: &mut [u32],
+)
+    requires { length edges.now ≤ length needs.old }
+    ensures here { slot < length numbers.now → (e : Edge) → slice_get edges.now (slice_index numbers.now slot) ≡ Some e → e.target ≡ target → Parts (V.Vessel.top vessel.now) (Reaches (V.Vessel.table vessel.now) wanted e.amount) (slice_index needs.new (slice_index numbers.now slot)) }
+    ensures rest { (k : ℕ) → (slice_index needs.new k ≡ slice_index needs.old k) ⊎ RightFor (V.Vessel.top vessel.now) (V.Vessel.table vessel.now) target wanted edges.now needs.new k }
+{
+    let Some(&k) = numbers.get(slot) else {
+        return;
+    };
+    if k >= edges.len() || edges[k].target != target {
+        return;
     }
+    needs[k] = need_of(vessel, wanted, edges[k]);
+}
 
+impl Arcs {
     // Writes again what each move to the target needs for its entry.
     pub(crate) fn refresh<V: Graded>(
         &self,
@@ -70,10 +70,11 @@ impl Arcs {
         ensures rest { (k : ℕ) → (slice_index needs.new k ≡ slice_index needs.old k) ⊎ RightNeed (V.Vessel.top vessel.now) (V.Vessel.table vessel.now) row.now edges.now needs.new k }
     {
         let wanted = row[target as usize];
+        let numbers = self.numbers.as_slice();
         let begin = self.begins[target as usize];
         let end = self.begins[target as usize + 1];
         for slot in begin..end {
-            self.refresh_slot(vessel, edges, target, wanted, slot, needs);
+            refresh_slot(vessel, numbers, edges, target, wanted, slot, needs);
         }
     }
 }

@@ -5,6 +5,7 @@ ghost use Rattle.solver.specs.Needs.{RightNeed, RefreshesPart};
 ghost use Rattle.solver.specs.Origins.{IsSource, FlagsSources};
 
 use super::changing::{add_all, add_place};
+use super::needs::fill_needs;
 use super::origins::Origins;
 use hopper::{Board, Graded, Vessel};
 
@@ -97,7 +98,8 @@ impl<B: Board> Origins<'_, B> {
         add_all(list, flags)
     }
 
-    // Writes again what each move to a place of the list needs.
+    // Writes again what each move to a place of the list needs, or what all moves need where the list has most of the places.
+    #[inline(never)]
     pub(crate) fn refresh_all<V: Graded>(
         &self,
         vessel: &V,
@@ -114,6 +116,10 @@ impl<B: Board> Origins<'_, B> {
         ensures rest { (k : ℕ) → (slice_index needs.new k ≡ slice_index needs.old k) ⊎ RightNeed (V.Vessel.top vessel.now) (V.Vessel.table vessel.now) row.now self.now.table.edges.items needs.new k }
     {
         let edges = self.table.edges.as_slice();
+        if changes.saturating_mul(4) >= self.table.board.places() as usize * 3 {
+            fill_needs(vessel, row, edges, needs);
+            return;
+        }
         for i in 0..changes {
             self.arcs.refresh(vessel, row, edges, changed[i], needs);
         }

@@ -1,8 +1,9 @@
 -- What is left to show of `refresh`.
-use Rattle.std.proofs.Common.{◌≡◌, ℕ, ◌+◌, ◌<◌, ◌≤◌, ◌⊎◌, Some, slice_index, sym, ◌∙◌, subst, inl, inr, refl, arith}
+use Rattle.std.proofs.Common.{◌≡◌, ℕ, ◌+◌, ◌<◌, ◌≤◌, ◌⊎◌, List, length, Some, slice_index, sym, ◌∙◌, subst, inl, inr, refl, arith}
 use Rattle.std.specs.List.{slice_get}
 use Rattle.std.proofs.lemmas.Bool.{cases_lt}
 use Rattle.std.proofs.lemmas.List.{get_or_read}
+use Rattle.game.specs.declared.Edge.{Edge}
 use Rattle.game.specs.Rows.{Reaches}
 use Rattle.solver.specs.Least.{Parts}
 use Rattle.solver.specs.RowSteps.{Serves}
@@ -19,6 +20,13 @@ loop-slot-preserved g c =
     let numbers = c.args.self.now.numbers.items in
     let l = c.loop-slot in
     let new = c.refresh_slot.new.needs in
+    let slot_here : l.slot < length numbers → (e : Edge) → slice_get edges (slice_index numbers l.slot) ≡ Some e → e.target ≡ c.args.target
+        → Parts top (Reaches t (slice_index row c.args.target) e.amount) (slice_index new (slice_index numbers l.slot)) =
+    subst
+        (λ (xs : List ℕ).
+            l.slot < length xs → (e : Edge) → slice_get edges (slice_index xs l.slot) ≡ Some e → e.target ≡ c.args.target
+            → Parts top (Reaches t (slice_index row c.args.target) e.amount) (slice_index new (slice_index xs l.slot)))
+        c.as_slice-numbers.ensures.value c.refresh_slot.ensures.here in
     let wanted : slice_index row c.args.target ≡ slice_index row c.args.target = refl in
     let kept : (k : ℕ) → (slice_index new k ≡ slice_index l.needs k) ⊎ RightNeed top t row edges new k = λ k.
     elim (c.refresh_slot.ensures.rest k) [ inl e ↦ inl e | inr r ↦ inr (right_by top t row edges new c.args.target (slice_index row c.args.target) k wanted r) ] in (
@@ -30,7 +38,7 @@ loop-slot-preserved g c =
         | inr le ↦ (
             let here : i ≡ l.slot = omega arith in
             let got : Parts top (Reaches t (slice_index row c.args.target) e.amount) (slice_index new (slice_index numbers l.slot)) =
-            c.refresh_slot.ensures.here (omega arith) e (subst (λ (n : ℕ). slice_get edges (slice_index numbers n) ≡ Some e) here is) leads in
+            slot_here (omega arith) e (subst (λ (n : ℕ). slice_get edges (slice_index numbers n) ≡ Some e) here is) leads in
             let got' : Parts top (Serves t row e) (slice_index new (slice_index numbers l.slot)) =
             subst (λ (n : ℕ). Parts top (Reaches t (slice_index row n) e.amount) (slice_index new (slice_index numbers l.slot))) (sym leads) got in
             subst (λ (n : ℕ). Parts top (Serves t row e) (slice_index new (slice_index numbers n))) (sym here) got')

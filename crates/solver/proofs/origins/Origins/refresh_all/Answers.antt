@@ -1,7 +1,7 @@
 -- What is left to show of `refresh_all`.
 use Rattle.std.proofs.Common.{◌≡◌, ℕ, ◌⊎◌, List, slice_index, subst, arith, below_more}
 use Rattle.game.specs.declared.Edge.{Edge}
-use Rattle.solver.specs.Needs.{RightNeed, RefreshesPart}
+use Rattle.solver.specs.Needs.{RightNeed, RightNeeds, RefreshesPart}
 use Rattle.solver.proofs.Refreshing.{part_still, rest_on}
 use Rattle.solver.proofs.origins.Origins.refresh_all.Goals as goal
 
@@ -25,3 +25,9 @@ loop-i-preserved g c =
 
 pub returns-clause-parts : goal.returns-clause-parts
 returns-clause-parts g c = λ i lt. c.loop-i.invariant.0 i (omega arith)
+
+pub returns-then-saturating_mul-places-clause-parts : goal.returns-then-saturating_mul-places-clause-parts
+returns-then-saturating_mul-places-clause-parts g c = λ i lt k e arc is leads.
+    let top = g.V.Vessel.top c.args.vessel.now in
+    let t = g.V.Vessel.table c.args.vessel.now in
+    subst (λ (xs : List Edge). RightNeeds top t c.args.row.now xs c.fill_needs.new.needs) c.as_slice-edges.ensures.value c.fill_needs.ensures k e is
