@@ -21,12 +21,12 @@ loop-slot-preserved g c =
     let l = c.loop-slot in
     let new = c.refresh_slot.new.needs in
     let slot_here : l.slot < length numbers → (e : Edge) → slice_get edges (slice_index numbers l.slot) ≡ Some e → e.target ≡ c.args.target
-        → Parts top (Reaches t (slice_index row c.args.target) e.amount) (slice_index new (slice_index numbers l.slot)) =
+    → Parts top (Reaches t (slice_index row c.args.target) e.amount) (slice_index new (slice_index numbers l.slot)) =
     subst
-        (λ (xs : List ℕ).
-            l.slot < length xs → (e : Edge) → slice_get edges (slice_index xs l.slot) ≡ Some e → e.target ≡ c.args.target
-            → Parts top (Reaches t (slice_index row c.args.target) e.amount) (slice_index new (slice_index xs l.slot)))
-        c.as_slice-numbers.ensures.value c.refresh_slot.ensures.here in
+    (λ (xs : List ℕ).
+    l.slot < length xs → (e : Edge) → slice_get edges (slice_index xs l.slot) ≡ Some e → e.target ≡ c.args.target
+    → Parts top (Reaches t (slice_index row c.args.target) e.amount) (slice_index new (slice_index xs l.slot)))
+    c.as_slice-numbers.ensures.value c.refresh_slot.ensures.here in
     let wanted : slice_index row c.args.target ≡ slice_index row c.args.target = refl in
     let kept : (k : ℕ) → (slice_index new k ≡ slice_index l.needs k) ⊎ RightNeed top t row edges new k = λ k.
     elim (c.refresh_slot.ensures.rest k) [ inl e ↦ inl e | inr r ↦ inr (right_by top t row edges new c.args.target (slice_index row c.args.target) k wanted r) ] in (
