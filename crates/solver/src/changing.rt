@@ -62,7 +62,6 @@ pub(crate) fn add_all(list: &mut [u32], flags: &mut [bool]) -> usize
 }
 
 // Makes again the entries of the places of the list, takes their flags, and lists the places where they differ from the row's: answers how many these are.
-#[inline(never)]
 pub(crate) fn remake<B: Board, V: Graded>(
     table: &EdgeTable<B>,
     vessel: &V,

@@ -75,7 +75,6 @@ impl<B: Board> Origins<'_, B> {
     }
 
     // Lists and flags the places whose entries may change after those of the changed places did, and answers how many they are.
-    #[inline(never)]
     pub(crate) fn list_again(
         &self,
         changed: &[u32],
@@ -116,7 +115,8 @@ impl<B: Board> Origins<'_, B> {
         ensures rest { (k : ℕ) → (slice_index needs.new k ≡ slice_index needs.old k) ⊎ RightNeed (V.Vessel.top vessel.now) (V.Vessel.table vessel.now) row.now self.now.table.edges.items needs.new k }
     {
         let edges = self.table.edges.as_slice();
-        if changes.saturating_mul(4) >= self.table.board.places() as usize * 3 {
+        let third_more = changes.saturating_add(changes / 3);
+        if third_more >= self.arcs.begins.len().saturating_sub(1) {
             fill_needs(vessel, row, edges, needs);
             return;
         }
