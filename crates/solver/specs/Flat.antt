@@ -43,7 +43,7 @@ pub record IsHighest (f : FlatBoard) (marks : List ℕ) (from end highest : ℕ)
   pub most : (k : ℕ) → from ≤ k → k < end → mark_led f marks k ≤ highest
   pub attained : (k : ℕ) × (from ≤ k) × (k < end) × (mark_led f marks k ≡ highest)
 
--- the least of them
+-- the least of the marks that the moves from one number up to another lead to
 pub record IsLowest (f : FlatBoard) (marks : List ℕ) (from end lowest : ℕ) : Type 0 where
   pub least : (k : ℕ) → from ≤ k → k < end → lowest ≤ mark_led f marks k
   pub attained : (k : ℕ) × (from ≤ k) × (k < end) × (mark_led f marks k ≡ lowest)

@@ -12,11 +12,11 @@ use Rattle.solver.specs.RowSteps.{Serves}
 abbrev pub RightNeed : ℕ → Table → List ℕ → List Edge → List ℕ → ℕ → Type 0
 RightNeed top t row edges needs k = (e : Edge) → slice_get edges k ≡ Some e → Parts top (Serves t row e) (slice_index needs k)
 
--- so are the needs of the first n moves
+-- the needs of the first n moves are right
 abbrev pub RightBelow : ℕ → ℕ → Table → List ℕ → List Edge → List ℕ → Type 0
 RightBelow n top t row edges needs = (k : ℕ) → k < n → RightNeed top t row edges needs k
 
--- so are the needs of all moves
+-- the needs of all moves are right
 abbrev pub RightNeeds : ℕ → Table → List ℕ → List Edge → List ℕ → Type 0
 RightNeeds top t row edges needs = (k : ℕ) → RightNeed top t row edges needs k
 
