@@ -13,7 +13,19 @@ use lineformat::Kind;
 use solver::{least, mark};
 use std::alloc::Global;
 
-// Marks the fills of a line with its own vessel.
+// Marks the fills of a line over a vessel of one kind.
+fn mark_over<'x, V: Vessel>(
+    heap: Global,
+    line: &'x FileLine,
+    vessel: &'x V,
+    marks: &mut [u32],
+) -> Result<u32, Fault>
+    ensures { MarkPromises (game_of (held line.now)) (V.Vessel.top vessel.now) (V.Vessel.table vessel.now) marks.old marks.new result }
+{
+    mark(heap, line, vessel, marks)
+}
+
+// Marks the fills of a line with its own vessel. Each kind has its marking, so that no pour asks for the kind.
 pub(crate) fn mark_line<'x>(
     heap: Global,
     line: &'x FileLine,
@@ -22,7 +34,11 @@ pub(crate) fn mark_line<'x>(
 ) -> Result<u32, Fault>
     ensures { MarkPromises (game_of (held line.now)) (any_top vessel.now) (any_table vessel.now) marks.old marks.new result }
 {
-    mark(heap, line, vessel, marks)
+    match vessel {
+        AnyVessel::OfLip(lip) => mark_over(heap, line, lip, marks),
+        AnyVessel::OfClosed(closed) => mark_over(heap, line, closed, marks),
+        AnyVessel::OfDrawn(drawn) => mark_over(heap, line, drawn, marks),
+    }
 }
 
 fn mark_file(heap: Global, file: &[u8], marks: &mut [u32]) -> Result<u32, Fault>

@@ -6,7 +6,7 @@ pub mod Attraction
 pub mod Settled
 pub mod Passing
 pub mod LaidFlat
-pub mod FlatSettled
+pub mod Best
 pub mod Unfolds
 pub mod Marks
 pub mod Parting

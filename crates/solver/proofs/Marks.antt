@@ -1,8 +1,7 @@
 -- The forced marks of the unfolded board are the marks of the fills, and those tell their fates.
-use Rattle.std.proofs.Common.{◌≡◌, ℕ, zero, suc, ◌+◌, ◌*◌, ◌<◌, ◌≤◌, ltb, leb, ◌↔◌, List, [], ◌∷◌, length, get_or, pos, Some, None, Ok, Err, Option, Result, sym, refl, ap, ◌∙◌, subst, inl, inr, arith, IfOk}
+use Rattle.std.proofs.Common.{◌≡◌, ℕ, zero, suc, ◌+◌, ◌*◌, ◌<◌, ◌≤◌, ◌↔◌, List, get_or, pos, Some, None, Ok, Err, Option, Result, sym, refl, ap, ◌∙◌, subst, inl, inr, arith, IfOk}
 use native.Mathlib.Decide.{dec_le, ℕ_discrete}
 use Rattle.std.proofs.lemmas.Int.{ints}
-use Rattle.std.proofs.lemmas.Bool.{lt-leb, le-ltb}
 use Rattle.std.proofs.Math.Nat.{mul-pos}
 use Rattle.game.specs.Game.{Game, WellFormed}
 use Rattle.game.specs.Limits.{most_fills}
@@ -18,14 +17,9 @@ use Rattle.game.proofs.Pour.{lip_make, closed_make}
 use Rattle.game.proofs.Unfold.{spill_is_forced_by_mark}
 use Rattle.game.proofs.Weights.{lip_is_lower_weak_upper_bound, closed_is_interval_bound}
 use Rattle.hopper.specs.declared.Fault.{Fault}
-use Rattle.hopper.specs.declared.Layer.TheVariants.{Rest}
-use Rattle.hopper.specs.declared.Refusal.TheVariants.{NoSuchPlace, TooManyFills, MarksTooShort}
-use Rattle.hopper.specs.Faults.{Check, check, fault}
-use Rattle.hopper.specs.Refusing.{verdict}
-use Rattle.hopper.proofs.Refusing.{skipped}
 use Rattle.solver.specs.Entries.{never, as_entry, entries}
-use Rattle.solver.specs.Forcing.{forced_checks, ForcedMarks, ForcedAnswers}
-use Rattle.solver.specs.Marking.{mark_checks, FillMarks, MarkAnswers, TellsFates, GoodWhereNever, NeverOrWithin, BadIsForcedWithin, OneAboveTop, EachFillHasFate, WinsLowerWeakUpperBoundWhereNever, WinsIntervalBoundWhereNever}
+use Rattle.solver.specs.Forcing.{ForcedMarks}
+use Rattle.solver.specs.Marking.{FillMarks, MarkAnswers, TellsFates, GoodWhereNever, NeverOrWithin, BadIsForcedWithin, OneAboveTop, EachFillHasFate, WinsLowerWeakUpperBoundWhereNever, WinsIntervalBoundWhereNever}
 use Rattle.solver.proofs.Entries.{entry_back, entry_number}
 use Rattle.solver.proofs.Unfolds.{places_are, small_spill, number_of}
 
@@ -80,17 +74,7 @@ module _ (g : Game) (wf : WellFormed g) (top : ℕ) (t : Table) (keeps : Keeps t
     places : (unfolded g top t).places ≡ spill g top + 1
     places = places_are g top t ∙ ap (λ n. n + 1) (small_spill g top t small)
 
-    -- the checks of `forced` are then those of `mark`
-    same_verdict : verdict (forced_checks (unfolded g top t) (spill g top) (length old)) ≡ verdict (mark_checks g top (length old))
-    same_verdict =
-        ap (λ (n : ℕ). verdict (check (leb n (spill g top)) NoSuchPlace Rest (spill g top) ∷ check (ltb (length old) n) MarksTooShort Rest n ∷ [])) places
-        ∙ (skipped (leb (spill g top + 1) (spill g top)) (fault NoSuchPlace Rest (spill g top)) last tt (lt-leb (spill g top + 1) (spill g top) (omega arith))
-        ∙ sym (skipped (ltb most_fills (spill g top)) (fault TooManyFills Rest top) last tt (le-ltb most_fills (spill g top) small)))
-      where
-        last : List Check
-        last = check (ltb (length old) (spill g top + 1)) MarksTooShort Rest (spill g top + 1) ∷ []
-
-    fill_marks : (rounds : ℕ) → ForcedMarks (unfolded g top t) (spill g top) old new rounds → FillMarks g top t old new rounds
+    pub fill_marks : (rounds : ℕ) → ForcedMarks (unfolded g top t) (spill g top) old new rounds → FillMarks g top t old new rounds
     fill_marks rounds s =
         let n = places in
         record {
@@ -104,10 +88,6 @@ module _ (g : Game) (wf : WellFormed g) (top : ℕ) (t : Table) (keeps : Keeps t
             attained = (s.largest.attained.0, (let k = s.largest.attained.1 in omega arith), s.largest.attained.2);
           };
         }
-
-    pub mark_answers : (r : Result ℕ Fault) → ForcedAnswers (unfolded g top t) (spill g top) old new r → MarkAnswers g top t old new r
-    mark_answers (Ok rounds) a = (sym same_verdict ∙ a.0, fill_marks rounds a.1)
-    mark_answers (Err e) a = (sym same_verdict ∙ a.0, a.1)
 
   module _ (old new : List ℕ) where
     pub tells_fates : (r : Result ℕ Fault) → MarkAnswers g top t old new r → IfOk r (λ _. TellsFates g top t new)

@@ -6,10 +6,10 @@ use Rattle.game.specs.Forced.{Forces, IsForced}
 use Rattle.game.proofs.Forced.{into_map, forced_settles}
 use Rattle.solver.specs.Entries.{never, as_entry, entries, KeptFrom}
 use Rattle.solver.specs.Forcing.{MarkedBelow, ForcedMarks}
-use Rattle.solver.specs.Settling.{IsBest, Settled}
+use Rattle.solver.specs.Settling.{Settled}
 use Rattle.solver.proofs.Entries.{entry_small, entry_back}
 
-module _ (g : Game) (w : WellFormed g) (t : ℕ) (inside : t < g.places) (marks : List ℕ) (rounds : ℕ) (few : rounds < g.places) (s : Settled (IsBest g marks) t g.places marks rounds) where
+module _ (g : Game) (w : WellFormed g) (t : ℕ) (inside : t < g.places) (marks : List ℕ) (rounds : ℕ) (few : rounds < g.places) (s : Settled g t g.places marks rounds) where
   low : (i : ℕ) → i ≤ suc rounds → suc i < never
   low i le = let b = w.few_places in omega arith
 

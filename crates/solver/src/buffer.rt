@@ -23,7 +23,7 @@ pub(crate) struct Entries<'a, B: Board> {
 impl<B: Board> Entries<'_, B> {
     // Who chooses at the place.
     // kept as it is: no plainer, a struct for a place that is there would be made anew for each place
-    fn owner(&self, place: u32) -> Owner
+    pub(crate) fn owner(&self, place: u32) -> Owner
         requires { place < (B.Board.game self.now.board.now).places }
         ensures { owner_at ((B.Board.game self.now.board.now).at place) ≡ Some result }
     {
@@ -40,7 +40,8 @@ impl<B: Board> Entries<'_, B> {
 
     // Its move m.
     // kept as it is: no plainer, a struct for a move that is there would be made anew for each move
-    fn move_at(&self, place: u32, m: u32) -> Edge
+    #[inline(always)]
+    pub(crate) fn move_at(&self, place: u32, m: u32) -> Edge
         requires { m < count_at ((B.Board.game self.now.board.now).at place) }
         ensures answered { step_at ((B.Board.game self.now.board.now).at place) m ≡ Some result }
         ensures inside { result.target < (B.Board.game self.now.board.now).places }

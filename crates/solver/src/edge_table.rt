@@ -4,7 +4,7 @@ ghost use Rattle.std.specs.List.{slice_get};
 ghost use Rattle.hopper.specs.Boards.{count_at, step_at};
 ghost use Rattle.solver.specs.EdgeTable.{HasMoves, Laid};
 
-use game::Edge;
+use game::{Edge, Owner};
 use hopper::Board;
 use std::alloc::Global;
 
@@ -84,5 +84,35 @@ impl<'a, B: Board> EdgeTable<'a, B> {
             firsts,
             edges,
         })
+    }
+}
+
+impl<B: Board> Board for EdgeTable<'_, B> {
+    ghost game = { λ t. B.Board.game t.board.now };
+
+    ghost formed = { λ t. B.Board.formed t.board.now };
+
+    fn places(&self) -> u32 {
+        self.board.places()
+    }
+
+    fn owner(&self, place: u32) -> Option<Owner> {
+        self.board.owner(place)
+    }
+
+    fn moves(&self, place: u32) -> Option<u32> {
+        self.board.moves(place)
+    }
+
+    fn step(&self, place: u32, mv: u32) -> Option<Edge> {
+        if place >= self.board.places() {
+            return None;
+        }
+        let first = self.firsts[place as usize];
+        let end = self.firsts[place as usize + 1];
+        if mv as usize >= end - first {
+            return None;
+        }
+        Some(self.edges[first + mv as usize])
     }
 }

@@ -6,7 +6,6 @@ ghost use Rattle.solver.specs.Forcing.{RoundDone, ForcedMarks, ForcedAnswers};
 use super::NEVER;
 use super::buffer::Entries;
 use super::flat::FlatBoard;
-use super::settling::settled;
 use super::spreading::spread;
 use hopper::{Board, Fault, Layer, Refusal, check, pass};
 use std::alloc::Global;
@@ -58,7 +57,23 @@ fn by_spreading<B: Board>(heap: Global, board: &B, target: u32, marks: &mut [u32
 {
     let flat = FlatBoard::lay(heap, board)?;
     spread(heap, &flat, target, &mut marks[..flat.owners.len()])?;
-    settled(&flat, target, marks)
+    let entries = Entries {
+        board,
+        entries: marks,
+    };
+    entries.settled(target)
+}
+
+// Marks the places, by rounds where spreading comes to nothing, and answers the number of rounds.
+pub(crate) fn forced_marks<B: Board>(heap: Global, board: &B, target: u32, marks: &mut [u32]) -> u32
+    requires target { target < (B.Board.game board.now).places }
+    requires room { (B.Board.game board.now).places ≤ length marks.old }
+    ensures { ForcedMarks (B.Board.game board.now) target marks.old marks.new result }
+{
+    match by_spreading(heap, board, target, marks) {
+        Some(rounds) => rounds,
+        None => by_rounds(board, target, marks),
+    }
 }
 
 // Finds, place by place, how few moves the other side needs to bring the run to the target, and answers the largest of these numbers.
@@ -86,8 +101,5 @@ pub fn forced<B: Board>(
             places as u64,
         ),
     ])?;
-    match by_spreading(heap, board, target, marks) {
-        Some(rounds) => Ok(rounds),
-        None => Ok(by_rounds(board, target, marks)),
-    }
+    Ok(forced_marks(heap, board, target, marks))
 }

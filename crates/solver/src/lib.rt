@@ -8,6 +8,7 @@ mod edge_table;
 mod flat;
 pub mod forcing;
 mod laying;
+mod levels;
 pub mod marking;
 mod needing;
 mod needs;

@@ -1,10 +1,15 @@
 // How long each fill holds.
-ghost use Rattle.std.specs.Prelude.{◌≡◌, ◌+◌, min, IfOk};
-ghost use Rattle.game.specs.Forced.{spill};
+ghost use Rattle.std.specs.Prelude.{◌≡◌, ◌+◌, ◌<◌, ◌≤◌, length, min, IfOk, IfSome};
+ghost use Rattle.game.specs.Forced.{spill, unfolded};
 ghost use Rattle.game.specs.Limits.{most_fills};
+ghost use Rattle.solver.specs.Entries.{KeptFrom};
+ghost use Rattle.solver.specs.Forcing.{ForcedMarks};
 ghost use Rattle.solver.specs.Marking.{MarkAnswers, TellsFates, GoodWhereNever, NeverOrWithin, BadIsForcedWithin, OneAboveTop, EachFillHasFate, WinsLowerWeakUpperBoundWhereNever, WinsIntervalBoundWhereNever};
 
-use super::forcing::forced;
+use super::buffer::Entries;
+use super::edge_table::EdgeTable;
+use super::forcing::forced_marks;
+use super::levels::spread_levels;
 use super::unfolded::{Unfolded, fills};
 use hopper::limits::MOST_FILLS;
 use hopper::{Board, Fault, Layer, Refusal, Vessel, check, pass};
@@ -16,6 +21,49 @@ pub fn marks_needed<B: Board, V: Vessel>(board: &B, vessel: &V) -> usize
     ensures { result ≡ min (spill (B.Board.game board.now) (V.Vessel.top vessel.now)) most_fills + 1 }
 {
     fills(board, vessel).min(MOST_FILLS) as usize + 1
+}
+
+// Marks the fills by the moves of the line alone, and answers the number of rounds if the heap has room for the work and the marks settle.
+fn by_levels<B: Board, V: Vessel>(
+    heap: Global,
+    fills: &Unfolded<B, V>,
+    target: u32,
+    marks: &mut [u32],
+) -> Option<u32>
+    requires target { target < (unfolded (B.Board.game fills.now.board.now) (V.Vessel.top fills.now.vessel.now) (V.Vessel.table fills.now.vessel.now)).places }
+    requires room { (unfolded (B.Board.game fills.now.board.now) (V.Vessel.top fills.now.vessel.now) (V.Vessel.table fills.now.vessel.now)).places ≤ length marks.old }
+    ensures marked { IfSome result (ForcedMarks (unfolded (B.Board.game fills.now.board.now) (V.Vessel.top fills.now.vessel.now) (V.Vessel.table fills.now.vessel.now)) target marks.old marks.new) }
+    ensures kept { KeptFrom (unfolded (B.Board.game fills.now.board.now) (V.Vessel.top fills.now.vessel.now) (V.Vessel.table fills.now.vessel.now)).places marks.old marks.new }
+{
+    let table = EdgeTable::new(heap, fills.board)?;
+    let fills = Unfolded {
+        board: &table,
+        vessel: fills.vessel,
+    };
+    let places = fills.places() as usize;
+    spread_levels(heap, &table, fills.vessel, &mut marks[..places])?;
+    let entries = Entries {
+        board: &fills,
+        entries: marks,
+    };
+    entries.settled(target)
+}
+
+// Marks the fills, by the moves of the unfolded board where those of the line come to nothing, and answers the number of rounds.
+fn fill_marks<B: Board, V: Vessel>(
+    heap: Global,
+    fills: &Unfolded<B, V>,
+    target: u32,
+    marks: &mut [u32],
+) -> u32
+    requires target { target < (unfolded (B.Board.game fills.now.board.now) (V.Vessel.top fills.now.vessel.now) (V.Vessel.table fills.now.vessel.now)).places }
+    requires room { (unfolded (B.Board.game fills.now.board.now) (V.Vessel.top fills.now.vessel.now) (V.Vessel.table fills.now.vessel.now)).places ≤ length marks.old }
+    ensures { ForcedMarks (unfolded (B.Board.game fills.now.board.now) (V.Vessel.top fills.now.vessel.now) (V.Vessel.table fills.now.vessel.now)) target marks.old marks.new result }
+{
+    match by_levels(heap, fills, target, marks) {
+        Some(rounds) => rounds,
+        None => forced_marks(heap, fills, target, marks),
+    }
 }
 
 // Finds, fill by fill, within how many moves the other side can bring about a refusal, and answers the largest of these numbers.
@@ -38,12 +86,20 @@ pub fn mark<'x, B: Board, V: Vessel>(
 {
     let top = vessel.top();
     let count = fills(board, vessel);
-    pass(&[check(
-        count > MOST_FILLS,
-        Refusal::TooManyFills,
-        Layer::Rest,
-        top as u64,
-    )])?;
+    pass(&[
+        check(
+            count > MOST_FILLS,
+            Refusal::TooManyFills,
+            Layer::Rest,
+            top as u64,
+        ),
+        check(
+            (marks.len() as u64) < count + 1,
+            Refusal::MarksTooShort,
+            Layer::Rest,
+            count + 1,
+        ),
+    ])?;
     let unfolded = Unfolded { board, vessel };
-    forced(heap, &unfolded, count as u32, marks)
+    Ok(fill_marks(heap, &unfolded, count as u32, marks))
 }

@@ -60,7 +60,7 @@ impl<B: Board, V: Vessel> Board for Unfolded<'_, B, V> {
         }
     }
 
-    #[inline]
+    #[inline(always)]
     fn step(&self, place: u32, mv: u32) -> Option<Edge> {
         let spill = self.spill();
         if place >= spill {

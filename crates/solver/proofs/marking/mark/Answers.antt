@@ -1,10 +1,12 @@
 -- What is left to show of `mark`.
-use Rattle.std.proofs.Common.{◌≤◌, rules}
+use Rattle.std.proofs.Common.{◌≡◌, ℕ, ◌≤◌, length, Ok, Result, rules}
 use Rattle.game.specs.Limits.{most_fills}
 use Rattle.game.specs.Forced.{spill, unfolded}
-use Rattle.solver.specs.Forcing.{ForcedAnswers}
-use Rattle.solver.specs.Marking.{MarkAnswers}
-use Rattle.solver.proofs.Marks.{mark_answers, tells_fates, never_is_good, never_or_within, bad_is_forced_within, never_wins_lower_weak_upper_bound, never_wins_interval_bound, one_above_top, each_fill_has_fate, of_accepted}
+use Rattle.hopper.specs.declared.Fault.{Fault}
+use Rattle.hopper.specs.Refusing.{verdict}
+use Rattle.solver.specs.Forcing.{ForcedMarks}
+use Rattle.solver.specs.Marking.{MarkAnswers, mark_checks}
+use Rattle.solver.proofs.Marks.{fill_marks, tells_fates, never_is_good, never_or_within, bad_is_forced_within, never_wins_lower_weak_upper_bound, never_wins_interval_bound, one_above_top, each_fill_has_fate, of_accepted}
 use Rattle.solver.proofs.marking.mark.Goals as goal
 
 pub returns : goal.returns
@@ -17,11 +19,13 @@ returns g c =
     let formed = g.B.Board.formed board in
     let keeps = g.V.Vessel.keeps vessel in
     let old = c.args.marks.now in
-    let new = c.forced.new.marks in
-    let r = c.forced.result in
-    let answered : ForcedAnswers (unfolded game top t) (spill game top) old new r = rw c.fills-count.ensures at c.forced.ensures in
+    let new = c.fill_marks.new.marks in
+    let rounds = c.fill_marks.result in
     let small : spill game top ≤ most_fills = search rules in
-    let answer : MarkAnswers game top t old new r = mark_answers game formed top t keeps small old new r answered in
+    let marked : ForcedMarks (unfolded game top t) (spill game top) old new rounds = rw c.fills-count.ensures at c.fill_marks.ensures in
+    let passed : verdict (mark_checks game top (length old)) ≡ Ok tt = search rules in
+    let r : Result ℕ Fault = Ok rounds in
+    let answer : MarkAnswers game top t old new r = (passed, fill_marks game formed top t keeps small old new rounds marked) in
     record {
       answer = answer;
       fates = tells_fates game formed top t keeps old new r answer;

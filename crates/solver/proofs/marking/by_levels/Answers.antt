@@ -1,0 +1,21 @@
+-- What is left to show of `by_levels`.
+use Rattle.std.proofs.Common.{◌≡◌, ℕ, List, ◌++◌, length, drop, rules}
+use Rattle.game.specs.Forced.{unfolded}
+use Rattle.solver.specs.Entries.{KeptFrom}
+use Rattle.solver.proofs.Entries.{past_front}
+use Rattle.solver.proofs.marking.by_levels.Goals as goal
+
+pub returns-clause-marked : goal.returns-clause-marked
+returns-clause-marked g c =
+    let game = unfolded (g.B.Board.game c.args.fills.now.board.now) (g.V.Vessel.top c.args.fills.now.vessel.now) (g.V.Vessel.table c.args.fills.now.vessel.now) in
+    let old = c.args.marks.now in
+    let front = c.spread_levels.new.marks in
+    let marks : List ℕ = front ++ drop c.places-places.result old in
+    let places : c.places-places.result ≡ game.places = search rules in
+    let long : length front ≡ game.places = search rules in
+    let kept : KeptFrom game.places old marks = record {
+      same_length = search rules;
+      same_rest = λ k le. rw places (past_front game.places k front old long le);
+    } in
+    let tells = rw c.in_ok-table.ensures at c.settled.ensures in
+    tells old kept
