@@ -5,7 +5,6 @@ pub mod Rounds
 pub mod Attraction
 pub mod Settled
 pub mod Passing
-pub mod LaidFlat
 pub mod Best
 pub mod Unfolds
 pub mod Marks

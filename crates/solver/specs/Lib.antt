@@ -3,7 +3,6 @@ pub mod Entries
 pub mod Unfolding
 pub mod Forcing
 pub mod Settling
-pub mod Flat
 pub mod Marking
 pub mod Least
 pub mod RowSteps

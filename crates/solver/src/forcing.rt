@@ -5,7 +5,6 @@ ghost use Rattle.solver.specs.Forcing.{RoundDone, ForcedMarks, ForcedAnswers};
 
 use super::NEVER;
 use super::buffer::Entries;
-use super::flat::FlatBoard;
 use super::spreading::spread;
 use hopper::{Board, Fault, Layer, Refusal, check, pass};
 use std::alloc::Global;
@@ -55,8 +54,8 @@ fn by_spreading<B: Board>(heap: Global, board: &B, target: u32, marks: &mut [u32
     ensures marked { IfSome result (ForcedMarks (B.Board.game board.now) target marks.old marks.new) }
     ensures kept { KeptFrom (B.Board.game board.now).places marks.old marks.new }
 {
-    let flat = FlatBoard::lay(heap, board)?;
-    spread(heap, &flat, target, &mut marks[..flat.owners.len()])?;
+    let places = board.places() as usize;
+    spread(heap, board, target, &mut marks[..places])?;
     let entries = Entries {
         board,
         entries: marks,
