@@ -16,13 +16,14 @@ use std::time::{Duration, Instant};
 const HELP: &str = "words, all of them optional:
   self       tests the reference against itself and against the documents
   times      takes times on the big lines, and compares the answers there
+  worst      takes times of least on the slowest lines known, which takes minutes; only where asked for
   compare    compares answers on small lines, damaged files and shift logs
   lines=TEXT only the big lines with this in their name
   seed=N     another seed than 1 for what is compared
   small=N    so many small lines, 5000 otherwise
   damaged=N  so many damaged files, 20000 otherwise
   logs=N     so many shift logs, 3000 otherwise
-without self, times or compare all three are done";
+without self, times, worst or compare the others are done, all three";
 
 // ---- what is compared ----
 
@@ -67,6 +68,9 @@ impl Tally {
         let mut sum = 0;
         for (call, counts) in CALLS.iter().zip(&self.0) {
             let all: u64 = counts.iter().sum();
+            if all == 0 {
+                continue;
+            }
             let refusals: Vec<String> =
                 (1..36).filter(|&n| counts[n] > 0).map(|n| format!("{n}: {}", counts[n])).collect();
             println!("  {call}: {all} compared, {} accepted, refused {}", counts[0], refusals.join(", "));
@@ -429,10 +433,10 @@ fn compare_log(tally: &mut Tally, seed: u64) {
 
 // ---- times ----
 
-// The milliseconds of the fastest of several runs: three or more, up to a third of a second in all; of a long one two.
+// The milliseconds of the fastest of several runs: three or more, up to a third of a second in all; of a long one two, and of a very long one that one.
 fn fastest(mut call: impl FnMut()) -> f64 {
     let (mut least, mut all, mut runs) = (Duration::MAX, Duration::ZERO, 0);
-    while runs < 2 || (runs < 3 && all < Duration::from_secs(4)) || (runs < 200 && all < Duration::from_millis(330)) {
+    while runs < 1 || (runs < 2 && all < Duration::from_secs(10)) || (runs < 3 && all < Duration::from_secs(4)) || (runs < 200 && all < Duration::from_millis(330)) {
         let begun = Instant::now();
         call();
         let taken = begun.elapsed();
@@ -546,14 +550,19 @@ fn compare_big(tally: &mut Tally, line: &Big) {
     }
 }
 
+// Takes the times of `least` on the lines.
+fn rows_table(lines: &[Big]) {
+    println!("least: the ratio is the library's time to the better of whole rows and changed rows\n");
+    println!("| line | rounds | library | whole rows | changed rows | ratio | for comparison: whole rows in arrays of 256 |\n|---|---|---|---|---|---|---|");
+    let worst = lines.iter().map(times_of_least).fold(0.0, f64::max);
+    println!("\nworst ratio of least: {worst:.2}\n");
+}
+
 fn times(tally: &mut Tally, wanted: &str) {
     let least: Vec<Big> = lines::big_rows().into_iter().filter(|line| line.name.contains(wanted)).collect();
     let mark: Vec<Big> = lines::big_marks().into_iter().filter(|line| line.name.contains(wanted)).collect();
     println!("Times are in milliseconds, reading of the file included; each is the fastest of several runs.\n");
-    println!("least: the ratio is the library's time to the better of whole rows and changed rows\n");
-    println!("| line | rounds | library | whole rows | changed rows | ratio | for comparison: whole rows in arrays of 256 |\n|---|---|---|---|---|---|---|");
-    let worst = least.iter().map(times_of_least).fold(0.0, f64::max);
-    println!("\nworst ratio of least: {worst:.2}\n");
+    rows_table(&least);
     println!("mark: the ratio is the library's time to the worklist with a list of the fills that lead to each fill\n");
     println!("| line | rounds | library | worklist | ratio | for comparison: a worklist with lists of the line's moves only |\n|---|---|---|---|---|---|");
     let worst = mark.iter().map(times_of_mark).fold(0.0, f64::max);
@@ -569,6 +578,7 @@ fn times(tally: &mut Tally, wanted: &str) {
 struct Wanted {
     selftest: bool,
     times: bool,
+    worst: bool,
     compare: bool,
     lines: String,
     seed: u64,
@@ -582,6 +592,7 @@ impl Wanted {
         let mut wanted = Wanted {
             selftest: false,
             times: false,
+            worst: false,
             compare: false,
             lines: String::new(),
             seed: 1,
@@ -593,6 +604,7 @@ impl Wanted {
             match word.split_once('=') {
                 None if word == "self" => wanted.selftest = true,
                 None if word == "times" => wanted.times = true,
+                None if word == "worst" => wanted.worst = true,
                 None if word == "compare" => wanted.compare = true,
                 Some(("lines", text)) => wanted.lines = text.to_string(),
                 Some(("seed", n)) => wanted.seed = n.parse().ok()?,
@@ -602,7 +614,7 @@ impl Wanted {
                 _ => return None,
             }
         }
-        if !(wanted.selftest || wanted.times || wanted.compare) {
+        if !(wanted.selftest || wanted.times || wanted.worst || wanted.compare) {
             (wanted.selftest, wanted.times, wanted.compare) = (true, true, true);
         }
         Some(wanted)
@@ -620,6 +632,9 @@ fn main() {
     }
     if wanted.times {
         times(&mut tally, &wanted.lines);
+    }
+    if wanted.worst {
+        rows_table(&lines::worst_rows().into_iter().filter(|line| line.name.contains(&wanted.lines)).collect::<Vec<_>>());
     }
     if wanted.compare {
         // each line, file and log has a seed of its own, which a difference names: with seed=N it comes first

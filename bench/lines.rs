@@ -128,7 +128,7 @@ fn big(name: &str, places: Vec<Place>, kind: u8, top: u32, draw: u16, marked: bo
         CLOSED => format!("closed {top}"),
         _ => format!("drawn {top} {draw}"),
     };
-    let name = format!("{name}, {} places, {moves} moves, {vessel}", places.len());
+    let name = format!("{name}, {} {}, {moves} moves, {vessel}", places.len(), if places.len() == 1 { "place" } else { "places" });
     Big { name, file: Line { places, kind, top, draw }.file(), marked }
 }
 
@@ -154,6 +154,18 @@ pub fn big_rows() -> Vec<Big> {
         lip("one place of ours", one(false, |m| -1 - m), 65_535),
         lip("one place of theirs", one(true, |m| m % 97 - 1), 65_535),
         drawn("one place of ours", one(false, |m| -m), 65_535, 1),
+    ]
+}
+
+// The lines on which `least` makes the most changes that a line file can ask for, with as many moves to look at for each: 256 places, the
+// highest top, and a litre lost at a time.
+pub fn worst_rows() -> Vec<Big> {
+    let lip = |name: &str, places| big(name, places, LIP, MOST_TOP, 0, false);
+    vec![
+        lip("ring, a litre a turn", ring(16, 0)),
+        lip("ring, a litre a turn", ring(1, 0)),
+        lip("a litre a move", random(24, 256, 16, (-1, -1), (-1, -1))),
+        lip("a litre a move, one place of ours", one(false, |_| -1)),
     ]
 }
 
