@@ -2,6 +2,7 @@
 use Rattle.std.proofs.Common.{◌≡◌, ℕ, suc, ◌+◌, ◌<◌, ◌≤◌, Bool, true, false, cond, eqb, ◌⊎◌, List, ◌++◌, length, length-append, get_or, set, drop, replicate, Some, sym, refl, ap, ◌∙◌, inl, inr, arith, get_or-set_other, get_or-set_same}
 use Rattle.std.proofs.lemmas.List.{length-replicate}
 use native.Mathlib.Decide.{ℕ_discrete}
+use Rattle.std.proofs.lemmas.Bool.{false≢true}
 use Rattle.std.proofs.lemmas.Bool.Decides.{nat_tests}
 use Rattle.game.specs.Game.{Game, WellFormed, sum_below}
 use Rattle.game.specs.Fill.{IsLeast}
@@ -75,16 +76,16 @@ module _ (g : Game) (w : WellFormed g) (t : ℕ) (inside : t < g.places) (old : 
     gone_on u = record {
       exact = λ k l. elim (s.exact k l) [ inl a ↦ kept k l a.0 a.1 | inr b ↦ elim (u.marked k l b.0) [ inl f ↦ first k l b.1 f.0 f.1 | inr n ↦ inr (n.0, not_yet k l b.1 n.1) ] ];
       rest = λ k l. u.rest k l ∙ s.rest k l;
-      reached = (u.news.0, u.news.1, u.news.3);
-      left = (let e = u.news.3 in let z = s.left in let y = w.few_places in
-          let h = sum_lt g.places (λ k. one_if (get_or new k 0)) (λ k. one_if (get_or marks k 0)) (λ k l. fewer k l) u.news.0 u.news.1 one in omega arith);
+      reached = ((u.news.0 refl).0, (u.news.0 refl).1, (u.news.0 refl).3);
+      left = (let e = (u.news.0 refl).3 in let z = s.left in let y = w.few_places in
+          let h = sum_lt g.places (λ k. one_if (get_or new k 0)) (λ k. one_if (get_or marks k 0)) (λ k l. fewer k l) (u.news.0 refl).0 (u.news.0 refl).1 one in omega arith);
     }
       where
         fewer : (k : ℕ) → k < g.places → one_if (get_or new k 0) ≤ one_if (get_or marks k 0)
         fewer k l = let h : get_or new k 0 ≡ never → get_or marks k 0 ≡ never = before true u k l in grind (arith, nat_tests)
 
-        one : one_if (get_or new u.news.0 0) < one_if (get_or marks u.news.0 0)
-        one = let a = u.news.2 in let b = u.news.3 in let z = s.left in let y = w.few_places in grind (arith, nat_tests)
+        one : one_if (get_or new (u.news.0 refl).0 0) < one_if (get_or marks (u.news.0 refl).0 0)
+        one = let a = (u.news.0 refl).2 in let b = (u.news.0 refl).3 in let z = s.left in let y = w.few_places in grind (arith, nat_tests)
 
         kept : (k : ℕ) → k < g.places → get_or marks k 0 ≤ i → IsLeast (λ j. Forces g t j k) (Some (get_or marks k 0)) → Sofar g t (suc i) k (get_or new k 0)
         kept k l le least = let z = small in let e = u.kept k l (omega arith) in rw e (inl (omega arith, least))
@@ -102,13 +103,13 @@ module _ (g : Game) (w : WellFormed g) (t : ℕ) (inside : t < g.places) (old : 
       same : (k : ℕ) → k < g.places → get_or new k 0 ≡ get_or marks k 0
       same k l = elim (s.exact k l) [
         | inl a ↦ (let h = a.0 in let z = small in u.kept k l (omega arith))
-        | inr b ↦ elim (u.marked k l b.0) [ inl f ↦ absurd (u.news (k, l, b.0, f.0)) | inr n ↦ n.0 ∙ sym b.0 ]
+        | inr b ↦ elim (u.marked k l b.0) [ inl f ↦ absurd (false≢true (u.news.1 (k, l, b.0, f.0))) | inr n ↦ n.0 ∙ sym b.0 ]
       ]
 
       settled : (k : ℕ) → k < g.places → Forces g t (suc i) k → Forces g t i k
       settled k l r = elim (s.exact k l) [
         | inl a ↦ forces_longer g w t (get_or marks k 0) i k a.0 a.1.0
-        | inr b ↦ elim (u.marked k l b.0) [ inl f ↦ absurd (u.news (k, l, b.0, f.0)) | inr n ↦ absurd (not_yet k l b.1 n.1 r) ]
+        | inr b ↦ elim (u.marked k l b.0) [ inl f ↦ absurd (false≢true (u.news.1 (k, l, b.0, f.0))) | inr n ↦ absurd (not_yet k l b.1 n.1 r) ]
       ]
 
       stable : (j k : ℕ) → k < g.places → Forces g t j k → Forces g t i k

@@ -1,6 +1,7 @@
 -- Moves by their numbers, and who chooses among them.
 use Rattle.std.proofs.Common.{◌≡◌, ℕ, ◌+◌, ◌<◌, ◌≤◌, Bool, true, false, Some, None, Option, length, sym, refl, ap, ◌∙◌, subst, arith}
-use Rattle.std.specs.Bool.{MatchBool}
+use Rattle.std.specs.Bool.{MatchBool, Decides}
+use Rattle.std.proofs.lemmas.Bool.{false≢true}
 use Rattle.std.specs.Iterator.Runs.{Run}
 use Rattle.std.specs.Option.{option_map}
 use Rattle.std.proofs.iter.Yields.{nat_range_steps}
@@ -15,7 +16,6 @@ use Rattle.game.specs.Forced.{foe, ForcesInto}
 use Rattle.game.proofs.Base.{none_some, some_inj}
 use Rattle.hopper.specs.Boards.{owner_at, step_at, count_at}
 use Rattle.hopper.proofs.Boards.{step_place, step_at_lem, step_below, step_there, owned}
-use Rattle.solver.specs.Entries.{Tells}
 use Rattle.solver.specs.Forcing.{LeadsTo}
 
 -- where the place is ours every move has to lead there, where it is theirs some move
@@ -38,7 +38,7 @@ led_out Ours g P p q at f = λ m e h.
     f m e (subst (λ (r : Place). slice_get r.moves m ≡ Some e) (some_inj (sym v.1 ∙ at)) v.2)
 led_out Theirs g P p q at w = (w.0, w.1, step_at_lem g p w.0 q w.1 at w.2, w.3)
 
-tells_led : (o : Owner) (g : Game) (P : ℕ → Type 0) (p : ℕ) → owner_at (g.at p) ≡ Some o → (b : Bool) → Tells b (Led o g P p) → Tells b (ForcesInto g P p)
+tells_led : (o : Owner) (g : Game) (P : ℕ → Type 0) (p : ℕ) → owner_at (g.at p) ≡ Some o → (b : Bool) → MatchBool b (Led o g P p) (¬ Led o g P p) → MatchBool b (ForcesInto g P p) (¬ ForcesInto g P p)
 tells_led o g P p h true led =
     let w = owned g p o h in
     (w.0, w.1, subst (λ (x : Owner). Choice (foe x) w.0.moves (λ e. P e.target)) (sym w.2) (led_in o g P p w.0 w.1 led))
@@ -66,6 +66,11 @@ pub by_test : {P Q : Type 0} (b : Bool) → (b ≡ true → P) → (b ≡ false 
 by_test true at_true at_false = at_true refl
 by_test false at_true at_false = at_false refl
 
+-- what is told of both answers is decided
+pub decided : {P : Type 0} (b : Bool) → MatchBool b P (¬ P) → Decides b P
+decided true p = (λ _. p, λ _. refl)
+decided false not = (λ e. absurd (false≢true e), λ p. absurd (not p))
+
 -- a whole run over 0 .. n comes to each number at its place
 pub comes_to : (p : Run nat_range_steps) → p.from.start ≡ 0 → p.whole ≡ true → (m : ℕ) → m < p.from.end → p.at m ≡ Some m
 comes_to p zero whole m lt =
@@ -80,7 +85,7 @@ module _ (g : Game) (P : ℕ → Type 0) (p : ℕ) where
   -- a place of ours is forced there where each move leads there, and a place of theirs where some move does
   pub each_forces : owner_at (g.at p) ≡ Some Ours → (b : Bool)
       → MatchBool b ((m : ℕ) → m < count_at (g.at p) → LeadsTo g P p m) ((m : ℕ) × (m < count_at (g.at p)) × ¬ LeadsTo g P p m)
-      → Tells b (ForcesInto g P p)
+      → MatchBool b (ForcesInto g P p) (¬ ForcesInto g P p)
   unfolding Led
   each_forces h true all = tells_led Ours g P p h true (λ m e is.
       let w = all m (step_below (g.at p) m e is) in
@@ -91,7 +96,7 @@ module _ (g : Game) (P : ℕ → Type 0) (p : ℕ) where
 
   pub some_forces : owner_at (g.at p) ≡ Some Theirs → (b : Bool)
       → MatchBool b ((m : ℕ) × LeadsTo g P p m) ((m : ℕ) → m < count_at (g.at p) → ¬ LeadsTo g P p m)
-      → Tells b (ForcesInto g P p)
+      → MatchBool b (ForcesInto g P p) (¬ ForcesInto g P p)
   unfolding Led
   some_forces h true one = tells_led Theirs g P p h true (one.0, one.1.0, one.1.1, one.1.2)
   some_forces h false none = tells_led Theirs g P p h false (λ w. none w.0 (step_below (g.at p) w.0 w.1 w.2) (w.1, w.2, w.3))

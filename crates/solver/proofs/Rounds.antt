@@ -1,10 +1,12 @@
 -- A round, place by place.
-use Rattle.std.proofs.Common.{◌≡◌, ℕ, ◌+◌, ◌<◌, ◌≤◌, Bool, true, false, List, length, get_or, set, inl, inr, arith, get_or-set_other, get_or-set_same, below_more}
+use Rattle.std.proofs.Common.{◌≡◌, ℕ, ◌+◌, ◌<◌, ◌≤◌, Bool, true, List, length, get_or, set, refl, inl, inr, arith, get_or-set_other, get_or-set_same, below_more}
+use Rattle.std.specs.Bool.{Decides}
 use Rattle.std.proofs.lemmas.Bool.{cases_lt}
+use Rattle.std.proofs.lemmas.Bool.Decides.{Decides-like}
 use Rattle.game.specs.Game.{Game, WellFormed}
 use Rattle.game.specs.Forced.{ForcesInto}
 use Rattle.game.proofs.Forced.{into_map}
-use Rattle.solver.specs.Entries.{never, Tells}
+use Rattle.solver.specs.Entries.{never}
 use Rattle.solver.specs.Forcing.{MarkedBelow, RoundDone}
 
 module _ (g : Game) (wf : WellFormed g) (old : List ℕ) (round : ℕ) (small : round < never) (fits : (k : ℕ) → get_or old k 0 ≤ never) where
@@ -20,10 +22,11 @@ module _ (g : Game) (wf : WellFormed g) (old : List ℕ) (round : ℕ) (small : 
   Fresh : ℕ → List ℕ → Type 0
   Fresh n new = (k : ℕ) × (k < n) × (get_or old k 0 ≡ never) × (get_or new k 0 ≡ round)
 
-  grown : (n : ℕ) (new : List ℕ) (fresh : Bool) → ((k : ℕ) → n ≤ k → get_or new k 0 ≡ get_or old k 0) → Tells fresh (Fresh n new) → Tells fresh (Fresh (n + 1) new)
+  grown : (n : ℕ) (new : List ℕ) (fresh : Bool) → ((k : ℕ) → n ≤ k → get_or new k 0 ≡ get_or old k 0) → Decides fresh (Fresh n new) → Decides fresh (Fresh (n + 1) new)
   unfolding Fresh
-  grown n new true past h = let x = h.1 in (h.0, omega arith, h.2, h.3)
-  grown n new false past h = λ f. elim (cases_lt f.0 n) [ inl l ↦ h (f.0, l, f.2, f.3) | inr l ↦ (let e = past f.0 l in let a = f.2 in let b = f.3 in omega arith) ]
+  grown n new fresh past = Decides-like fresh
+      (λ f. let l = f.1 in (f.0, omega arith, f.2, f.3))
+      (λ f. elim (cases_lt f.0 n) [ inl l ↦ (f.0, l, f.2, f.3) | inr l ↦ absurd (let e = past f.0 l in let a = f.2 in let b = f.3 in omega arith) ])
 
   pub round_set : (n : ℕ) (new : List ℕ) (fresh : Bool) → RoundDone g n old new round fresh → n < length new → get_or new n 0 ≡ never → ForcesInto g (MarkedBelow new round) n → RoundDone g (n + 1) old (set new n round) round true
   round_set n new fresh t lt e next =
@@ -33,7 +36,7 @@ module _ (g : Game) (wf : WellFormed g) (old : List ℕ) (round : ℕ) (small : 
         rest = λ k h. rw (get_or-set_other new n k round 0 (omega arith)) (t.rest k (omega arith));
         kept = below_more _ n (λ k h l. rw (get_or-set_other new n k round 0 (omega arith)) (t.kept k h l)) (λ l. absurd (omega arith));
         marked = below_more _ n (λ k h e'. rw (get_or-set_other new n k round 0 (omega arith)) (t.marked k h e')) (λ e'. inl (get_or-set_same new n round 0 lt, next'));
-        news = (n, omega arith, before, get_or-set_same new n round 0 lt);
+        news = (λ _. (n, omega arith, before, get_or-set_same new n round 0 lt), λ _. refl);
       }
 
   pub round_old : (n : ℕ) (new : List ℕ) (fresh : Bool) → RoundDone g n old new round fresh → get_or new n 0 < never → RoundDone g (n + 1) old new round fresh

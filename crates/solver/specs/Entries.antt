@@ -1,5 +1,5 @@
 -- The numbers in buffers: how they are read, and what is left of a buffer.
-use Rattle.std.specs.Prelude.{◌≡◌, ℕ, ◌<◌, ◌≤◌, Bool, true, false, cond, List, length, Some, None, Option, ◌==◌, slice_index}
+use Rattle.std.specs.Prelude.{◌≡◌, ℕ, ◌<◌, ◌≤◌, cond, List, length, Some, None, Option, ◌==◌, slice_index}
 use Rattle.game.specs.Fill.{Row}
 
 -- the number that stands for never
@@ -23,8 +23,3 @@ pub record KeptFrom (n : ℕ) (old new : List ℕ) : Type 0 where
 pub record IsLargest (n : ℕ) (buffer : List ℕ) (largest : ℕ) : Type 0 where
   pub most : (k x : ℕ) → k < n → entries buffer k ≡ Some x → x ≤ largest
   pub attained : (k : ℕ) × (k < n) × (entries buffer k ≡ Some largest)
-
--- b tells whether P holds
-abbrev pub Tells : Bool → Type 0 → Type 0
-Tells true P = P
-Tells false P = ¬ P

@@ -1,4 +1,5 @@
 -- What `forced` answers, and what one of its rounds does.
+use Rattle.std.specs.Bool.{Decides}
 use Rattle.std.specs.Prelude.{◌≡◌, ℕ, ◌<◌, ◌≤◌, Bool, ◌⊎◌, List, [], ◌∷◌, length, Some, Result, nat_le, nat_lt, slice_index}
 use Rattle.game.specs.declared.Edge.{Edge}
 use Rattle.game.specs.Game.{Game}
@@ -9,7 +10,7 @@ use Rattle.hopper.specs.declared.Layer.TheVariants.{Rest}
 use Rattle.hopper.specs.declared.Refusal.TheVariants.{NoSuchPlace, MarksTooShort}
 use Rattle.hopper.specs.Boards.{step_at}
 use Rattle.hopper.specs.Refusing.{Answers}
-use Rattle.solver.specs.Entries.{never, entries, KeptFrom, IsLargest, Tells}
+use Rattle.solver.specs.Entries.{never, entries, KeptFrom, IsLargest}
 
 -- the target is a place, and the marks have room for all places
 abbrev pub forced_checks : Game → ℕ → ℕ → List Check
@@ -41,4 +42,4 @@ pub record RoundDone (g : Game) (n : ℕ) (old new : List ℕ) (round : ℕ) (fr
   pub kept : (k : ℕ) → k < n → slice_index old k < never → slice_index new k ≡ slice_index old k
   pub marked : (k : ℕ) → k < n → slice_index old k ≡ never
       → ((slice_index new k ≡ round) × ForcesInto g (MarkedBelow old round) k) ⊎ ((slice_index new k ≡ never) × ¬ ForcesInto g (MarkedBelow old round) k)
-  pub news : Tells fresh ((k : ℕ) × (k < n) × (slice_index old k ≡ never) × (slice_index new k ≡ round))
+  pub news : Decides fresh ((k : ℕ) × (k < n) × (slice_index old k ≡ never) × (slice_index new k ≡ round))

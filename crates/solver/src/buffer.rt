@@ -1,9 +1,9 @@
 // A buffer that tells of the places of a board.
 ghost use Rattle.std.specs.Prelude.{◌≡◌, ◌<◌, ◌≤◌, length};
+ghost use Rattle.std.specs.Bool.{Decides};
 ghost use Rattle.game.specs.Forced.{ForcesInto};
 ghost use Rattle.game.specs.Fill.{Step};
 ghost use Rattle.hopper.specs.Boards.{owner_at, step_at, count_at};
-ghost use Rattle.solver.specs.Entries.{Tells};
 ghost use Rattle.solver.specs.Forcing.{MarkedBelow, LeadsTo};
 ghost use Rattle.solver.specs.Least.{Parts};
 ghost use Rattle.solver.specs.RowSteps.{Enough, NeededFor};
@@ -52,7 +52,7 @@ impl<B: Board> Entries<'_, B> {
     // Whether its move m leads to an entry below the round.
     fn leads_below(&self, place: u32, m: u32, round: u32) -> bool
         requires { m < count_at ((B.Board.game self.now.board.now).at place) }
-        ensures { Tells result (LeadsTo (B.Board.game self.now.board.now) (MarkedBelow self.now.entries.now round) place m) }
+        ensures { Decides result (LeadsTo (B.Board.game self.now.board.now) (MarkedBelow self.now.entries.now round) place m) }
     {
         self.entries[self.move_at(place, m).target as usize] < round
     }
@@ -60,7 +60,7 @@ impl<B: Board> Entries<'_, B> {
     // Whether the other side can force one move from the place to an entry below the round.
     pub(crate) fn can_force(&self, place: u32, round: u32) -> bool
         requires { place < (B.Board.game self.now.board.now).places }
-        ensures { Tells result (ForcesInto (B.Board.game self.now.board.now) (MarkedBelow self.now.entries.now round) place) }
+        ensures { Decides result (ForcesInto (B.Board.game self.now.board.now) (MarkedBelow self.now.entries.now round) place) }
     {
         let below = |m: u32|
             requires { m < count_at ((B.Board.game self.now.board.now).at place) }

@@ -1,5 +1,6 @@
 -- What is left to show of `mark_round`.
-use Rattle.std.proofs.Common.{ℕ, ◌<◌, ◌≤◌, length, get_or, arith, rules}
+use Rattle.std.proofs.Common.{ℕ, ◌<◌, ◌≤◌, length, get_or, refl, arith, rules}
+use Rattle.std.proofs.lemmas.Bool.{false≢true}
 use Rattle.solver.specs.Entries.{never}
 use Rattle.solver.proofs.Rounds.{round_set, round_old, round_not}
 use Rattle.solver.proofs.forcing.mark_round.Goals as goal
@@ -19,9 +20,9 @@ loop-place-preserved g c =
     let room : n < length new = omega arith in
     let value : get_or new n 0 ≤ never = search rules in
     elim c.if-marks-place.branch [
-      | then-marks-place+then-can_force w ↦ simp (w.marks-is, w.fresh-is) (round_set game formed old round small fits n new fresh c.loop-place.invariant room w.if-marks-place.true w.if-can_force.ensures)
+      | then-marks-place+then-can_force w ↦ simp (w.marks-is, w.fresh-is) (round_set game formed old round small fits n new fresh c.loop-place.invariant room w.if-marks-place.true (w.if-can_force.ensures.0 refl))
       | else-marks-place w ↦ simp (w.marks-is, w.fresh-is) (elim w.else-marks-place.branch [
-        | else-marks-place-via-then-marks-place+else-can_force w' ↦ round_not game formed old round small fits n new fresh c.loop-place.invariant w'.if-marks-place.true w'.if-can_force.ensures
+        | else-marks-place-via-then-marks-place+else-can_force w' ↦ round_not game formed old round small fits n new fresh c.loop-place.invariant w'.if-marks-place.true (λ p. false≢true (w'.if-can_force.ensures.1 p))
         | else-marks-place-via-else-marks-place w' ↦ round_old game formed old round small fits n new fresh c.loop-place.invariant (let no = w'.if-marks-place.false in omega arith)
       ])
     ]

@@ -5,7 +5,7 @@ use Rattle.std.specs.Bool.{MatchBool}
 use Rattle.game.specs.declared.Owner.TheVariants.{Ours, Theirs}
 use Rattle.hopper.specs.Boards.{owner_at, count_at}
 use Rattle.solver.specs.Forcing.{MarkedBelow, LeadsTo}
-use Rattle.solver.proofs.Choosing.{by_test, comes_to, each_forces, some_forces}
+use Rattle.solver.proofs.Choosing.{by_test, decided, comes_to, each_forces, some_forces}
 use Rattle.solver.proofs.buffer.Entries.can_force.Goals as goal
 
 pub returns-in-Ours : goal.returns-in-Ours
@@ -19,7 +19,7 @@ returns-in-Ours g c =
     let run = c.all.ensures.runs in
     let here : run.0.at m ≡ Some m = comes_to run.0 (search (rules, ranges)) (search (rules, ranges)) m (search (rules, ranges)) in
     search (rules, ranges)) (λ is. search (rules, ranges)) in
-    each_forces game below p own c.all.result told
+    decided c.all.result (each_forces game below p own c.all.result told)
 
 pub returns-in-Theirs : goal.returns-in-Theirs
 returns-in-Theirs g c =
@@ -32,4 +32,4 @@ returns-in-Theirs g c =
     let run = c.any.ensures.runs in
     let here : run.0.at m ≡ Some m = comes_to run.0 (search (rules, ranges)) (search (rules, ranges)) m (search (rules, ranges)) in
     search (rules, ranges)) in
-    some_forces game below p own c.any.result told
+    decided c.any.result (some_forces game below p own c.any.result told)
