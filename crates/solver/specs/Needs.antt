@@ -1,5 +1,5 @@
 -- What each move needs, in a table beside that of the moves.
-use Rattle.std.specs.Prelude.{◌≡◌, ℕ, ◌<◌, List, Some, slice_index}
+use Rattle.std.specs.Prelude.{◌≡◌, ℕ, List, Some, slice_index}
 use Rattle.std.specs.List.{slice_get}
 use Rattle.game.specs.declared.Edge.{Edge}
 use Rattle.game.specs.Vessel.{Table}
@@ -12,9 +12,9 @@ use Rattle.solver.specs.RowSteps.{Serves}
 abbrev pub RightNeed : ℕ → Table → List ℕ → List Edge → List ℕ → ℕ → Type 0
 RightNeed top t row edges needs k = (e : Edge) → slice_get edges k ≡ Some e → Parts top (Serves t row e) (slice_index needs k)
 
--- the needs of the first n moves are right
-abbrev pub RightBelow : ℕ → ℕ → Table → List ℕ → List Edge → List ℕ → Type 0
-RightBelow n top t row edges needs = (k : ℕ) → k < n → RightNeed top t row edges needs k
+-- beside each move stands the entry of its target
+abbrev pub AreWanted : List ℕ → List Edge → List ℕ → Type 0
+AreWanted row edges wanted = (k : ℕ) (e : Edge) → slice_get edges k ≡ Some e → slice_index wanted k ≡ slice_index row e.target
 
 -- the needs of all moves are right
 abbrev pub RightNeeds : ℕ → Table → List ℕ → List Edge → List ℕ → Type 0

@@ -4,30 +4,51 @@ ghost use Rattle.std.specs.List.{slice_get};
 ghost use Rattle.game.specs.declared.Edge.{Edge};
 ghost use Rattle.game.specs.Rows.{Reaches};
 ghost use Rattle.solver.specs.Least.{Parts};
-ghost use Rattle.solver.specs.Needs.{RightNeed, RightNeeds, RefreshesPart, RightFor};
+ghost use Rattle.solver.specs.Needs.{RightNeed, RightNeeds, AreWanted, RefreshesPart, RightFor};
 
 use super::NEVER;
 use super::arcs::Arcs;
 use game::Edge;
 use hopper::{Graded, Vessel};
 
-// The lowest level from which the move leads to the wanted level or above, or never.
+// The lowest level from which the move leads to the wanted level or above, or never. The vessel is asked at the top where more is wanted, so that no branch depends on what is wanted.
 fn need_of<V: Graded>(vessel: &V, wanted: u32, edge: Edge) -> u32
     ensures { Parts (V.Vessel.top vessel.now) (Reaches (V.Vessel.table vessel.now) wanted edge.amount) result }
 {
-    vessel.need(wanted, edge.amount).unwrap_or(NEVER)
+    let top = vessel.top();
+    let need = vessel.need(wanted.min(top), edge.amount).unwrap_or(NEVER);
+    if wanted > top { NEVER } else { need }
 }
 
-// Writes what each move needs for its target's entry, where the row has one.
+// Writes for each move its target's entry, which is the level that it is wanted to lead to.
+fn put_wanted(row: &[u32], edges: &[Edge], wanted: &mut [u32])
+    requires targets { (k : ℕ) (e : Edge) → slice_get edges.now k ≡ Some e → e.target < length row.now }
+    requires room { length edges.now ≤ length wanted.old }
+    ensures { AreWanted row.now edges.now wanted.new }
+{
+    for k in 0..edges.len() {
+        wanted[k] = row[edges[k].target as usize];
+    }
+}
+
+// Writes what each move needs in place of the level that it is wanted to lead to.
+fn put_needs<V: Graded>(vessel: &V, edges: &[Edge], needs: &mut [u32])
+    requires { length edges.now ≤ length needs.old }
+    ensures { (k : ℕ) (e : Edge) → slice_get edges.now k ≡ Some e → Parts (V.Vessel.top vessel.now) (Reaches (V.Vessel.table vessel.now) (slice_index needs.old k) e.amount) (slice_index needs.new k) }
+{
+    for k in 0..edges.len() {
+        needs[k] = need_of(vessel, needs[k], edges[k]);
+    }
+}
+
+// Writes what each move needs for its target's entry. Two passes are faster than one, which could not be done four moves at a time.
 pub(crate) fn fill_needs<V: Graded>(vessel: &V, row: &[u32], edges: &[Edge], needs: &mut [u32])
     requires targets { (k : ℕ) (e : Edge) → slice_get edges.now k ≡ Some e → e.target < length row.now }
     requires room { length edges.now ≤ length needs.old }
     ensures { RightNeeds (V.Vessel.top vessel.now) (V.Vessel.table vessel.now) row.now edges.now needs.new }
 {
-    for k in 0..edges.len() {
-        let edge = edges[k];
-        needs[k] = need_of(vessel, row[edge.target as usize], edge);
-    }
+    put_wanted(row, edges, needs);
+    put_needs(vessel, edges, needs);
 }
 
 // Writes again what the move in this slot needs for the wanted level, if it leads to the target.

@@ -98,7 +98,6 @@ impl<B: Board> Origins<'_, B> {
     }
 
     // Writes again what each move to a place of the list needs, or what all moves need where the list has most of the places.
-    #[inline(never)]
     pub(crate) fn refresh_all<V: Graded>(
         &self,
         vessel: &V,
