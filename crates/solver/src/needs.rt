@@ -11,12 +11,19 @@ use super::arcs::Arcs;
 use game::Edge;
 use hopper::{Graded, Vessel};
 
-// The lowest level from which the move leads to the wanted level or above, or never. The vessel is asked at the top where more is wanted, so that no branch depends on what is wanted.
+// The lowest level from which the move leads to the wanted level or above, or never.
 fn need_of<V: Graded>(vessel: &V, wanted: u32, edge: Edge) -> u32
     ensures { Parts (V.Vessel.top vessel.now) (Reaches (V.Vessel.table vessel.now) wanted edge.amount) result }
 {
+    vessel.need(wanted, edge.amount).unwrap_or(NEVER)
+}
+
+// The same, with no branch that depends on what is wanted: where it is above the top, the vessel is asked at the top.
+fn need_of_any<V: Graded>(vessel: &V, wanted: u32, edge: Edge) -> u32
+    ensures { Parts (V.Vessel.top vessel.now) (Reaches (V.Vessel.table vessel.now) wanted edge.amount) result }
+{
     let top = vessel.top();
-    let need = vessel.need(wanted.min(top), edge.amount).unwrap_or(NEVER);
+    let need = need_of(vessel, wanted.min(top), edge);
     if wanted > top { NEVER } else { need }
 }
 
@@ -37,11 +44,11 @@ fn put_needs<V: Graded>(vessel: &V, edges: &[Edge], needs: &mut [u32])
     ensures { (k : ℕ) (e : Edge) → slice_get edges.now k ≡ Some e → Parts (V.Vessel.top vessel.now) (Reaches (V.Vessel.table vessel.now) (slice_index needs.old k) e.amount) (slice_index needs.new k) }
 {
     for k in 0..edges.len() {
-        needs[k] = need_of(vessel, needs[k], edges[k]);
+        needs[k] = need_of_any(vessel, needs[k], edges[k]);
     }
 }
 
-// Writes what each move needs for its target's entry. Two passes are faster than one, which could not be done four moves at a time.
+// Writes what each move needs for its target's entry. One pass could not be done four moves at a time, and these two are.
 pub(crate) fn fill_needs<V: Graded>(vessel: &V, row: &[u32], edges: &[Edge], needs: &mut [u32])
     requires targets { (k : ℕ) (e : Edge) → slice_get edges.now k ≡ Some e → e.target < length row.now }
     requires room { length edges.now ≤ length needs.old }
@@ -76,6 +83,7 @@ fn refresh_slot<V: Graded>(
 
 impl Arcs {
     // Writes again what each move to the target needs for its entry.
+    #[inline(never)]
     pub(crate) fn refresh<V: Graded>(
         &self,
         vessel: &V,

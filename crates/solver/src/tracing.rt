@@ -56,29 +56,26 @@ impl<B: Board> Origins<'_, B> {
         Some(count)
     }
 
-    // Whether the places of the list have few moves to them, so that it is cheaper to look at their sources than at all places.
-    fn has_few_sources(&self, changed: &[u32], changes: usize) -> bool
-        requires { changes ≤ length changed.now }
+    // How many moves lead to the places of the list.
+    pub(crate) fn moves_to(&self, targets: &[u32], count: usize) -> usize
+        requires count { count ≤ length targets.now }
+        requires inside { (i : ℕ) → i < count → slice_index targets.now i < (B.Board.game self.now.table.board.now).places }
     {
-        let sources = &self.sources;
-        let mut count = 0usize;
-        for i in 0..changes {
-            let target = changed[i] as usize;
-            if let (Some(begin), Some(end)) = (
-                sources.begins.get(target),
-                sources.ends.get(target),
-            ) {
-                count = count.saturating_add(end.saturating_sub(*begin));
-            }
+        let begins = self.arcs.begins.as_slice();
+        let mut moves = 0usize;
+        for i in 0..count {
+            let target = targets[i] as usize;
+            moves = moves.saturating_add(begins[target + 1].saturating_sub(begins[target]));
         }
-        count < sources.begins.len()
+        moves
     }
 
-    // Lists and flags the places whose entries may change after those of the changed places did, and answers how many they are.
+    // Lists and flags the places whose entries may change after those of the changed places did, to which so many moves lead, and answers how many they are: all places where there are no more places than moves.
     pub(crate) fn list_again(
         &self,
         changed: &[u32],
         changes: usize,
+        moves: usize,
         list: &mut [u32],
         flags: &mut [bool],
     ) -> usize
@@ -89,7 +86,7 @@ impl<B: Board> Origins<'_, B> {
         ensures after { IsWorklist list.new result flags.new }
         ensures flagged { (i p : ℕ) → i < changes → p < length flags.new → IsSource self.now.sources.begins.items self.now.sources.ends.items self.now.sources.places.items (slice_index changed.now i) p → Flagged flags.new p }
     {
-        if self.has_few_sources(changed, changes)
+        if moves < flags.len()
             && let Some(count) = self.add_all_sources(changed, changes, list, flags)
         {
             return count;
@@ -97,13 +94,14 @@ impl<B: Board> Origins<'_, B> {
         add_all(list, flags)
     }
 
-    // Writes again what each move to a place of the list needs, or what all moves need where the list has most of the places.
+    // Writes again what each of the moves to the places of the list needs, or what all moves need where those are most of them.
     pub(crate) fn refresh_all<V: Graded>(
         &self,
         vessel: &V,
         row: &[u32],
         changed: &[u32],
         changes: usize,
+        moves: usize,
         needs: &mut [u32],
     )
         requires changes { changes ≤ length changed.now }
@@ -114,8 +112,7 @@ impl<B: Board> Origins<'_, B> {
         ensures rest { (k : ℕ) → (slice_index needs.new k ≡ slice_index needs.old k) ⊎ RightNeed (V.Vessel.top vessel.now) (V.Vessel.table vessel.now) row.now self.now.table.edges.items needs.new k }
     {
         let edges = self.table.edges.as_slice();
-        let third_more = changes.saturating_add(changes / 3);
-        if third_more >= self.arcs.begins.len().saturating_sub(1) {
+        if moves > edges.len() / 2 {
             fill_needs(vessel, row, edges, needs);
             return;
         }

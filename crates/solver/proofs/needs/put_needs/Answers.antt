@@ -15,12 +15,12 @@ loop-k-preserved g c =
     let edges = c.args.edges.now in
     let old = c.args.needs.now in
     let l = c.loop-k in
-    let v = c.need_of.result in
+    let v = c.need_of_any.result in
     let none : Edge = record { target = 0; amount = pos 0 } in
     let wanted : slice_index l.needs l.k ≡ slice_index old l.k = l.invariant.1 l.k (omega arith) in
     let new : (e : Edge) → slice_get edges l.k ≡ Some e → Parts top (Reaches t (slice_index old l.k) e.amount) v = λ e is.
     subst (λ (n : ℕ). Parts top (Reaches t n e.amount) v) wanted
-    (subst (λ (x : Edge). Parts top (Reaches t (slice_index l.needs l.k) x.amount) v) (get_or_from_slice_get edges l.k e none is) c.need_of.ensures) in (
+    (subst (λ (x : Edge). Parts top (Reaches t (slice_index l.needs l.k) x.amount) v) (get_or_from_slice_get edges l.k e none is) c.need_of_any.ensures) in (
       below_more _ l.k
           (λ k lt e is. subst (Parts top (Reaches t (slice_index old k) e.amount)) (sym (get_or-set_other l.needs l.k k v 0 (omega arith))) (l.invariant.0 k lt e is))
           (λ e is. subst (Parts top (Reaches t (slice_index old l.k) e.amount)) (sym (get_or-set_same l.needs l.k v 0 (omega arith))) (new e is)),
