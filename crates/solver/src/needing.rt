@@ -6,6 +6,7 @@ ghost use Rattle.solver.specs.Least.{Parts};
 ghost use Rattle.solver.specs.Needs.{RightNeeds};
 ghost use Rattle.solver.specs.RowSteps.{Enough, NeededFor};
 
+use super::NEVER;
 use super::edge_table::EdgeTable;
 use game::Owner;
 use hopper::{Board, Graded, Vessel};
@@ -47,8 +48,8 @@ impl<B: Board> EdgeTable<'_, B> {
         ensures all { (m : ℕ) → m < count → (n : ℕ) × NeededFor (B.Board.game self.now.board.now) (V.Vessel.top vessel.now) (V.Vessel.table vessel.now) row.now place m n × (result ≤ n) }
         ensures one { (m : ℕ) × NeededFor (B.Board.game self.now.board.now) (V.Vessel.top vessel.now) (V.Vessel.table vessel.now) row.now place m result }
     {
-        let mut least = self.needed(vessel, row, needs, place, 0);
-        for m in 1..count {
+        let mut least = NEVER;
+        for m in 0..count {
             least = least.min(self.needed(vessel, row, needs, place, m));
         }
         least
@@ -71,8 +72,8 @@ impl<B: Board> EdgeTable<'_, B> {
         ensures all { (m : ℕ) → m < count → (n : ℕ) × NeededFor (B.Board.game self.now.board.now) (V.Vessel.top vessel.now) (V.Vessel.table vessel.now) row.now place m n × (n ≤ result) }
         ensures one { (m : ℕ) × NeededFor (B.Board.game self.now.board.now) (V.Vessel.top vessel.now) (V.Vessel.table vessel.now) row.now place m result }
     {
-        let mut most = self.needed(vessel, row, needs, place, 0);
-        for m in 1..count {
+        let mut most = 0u32;
+        for m in 0..count {
             most = most.max(self.needed(vessel, row, needs, place, m));
         }
         most

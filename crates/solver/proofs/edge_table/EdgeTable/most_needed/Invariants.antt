@@ -1,5 +1,5 @@
 -- Invariants and measures of `most_needed`.
-use Rattle.std.proofs.Common.{ℕ, ◌<◌, ◌≤◌}
+use Rattle.std.proofs.Common.{◌≡◌, ℕ, ◌<◌, ◌≤◌, ◌⊎◌}
 use Rattle.solver.specs.RowSteps.{NeededFor}
 use Rattle.solver.proofs.edge_table.EdgeTable.most_needed.Given as goal
 
@@ -9,4 +9,4 @@ invariant-loop-m g l =
     let top = g.V.Vessel.top l.vessel in
     let t = g.V.Vessel.table l.vessel in
     ((m : ℕ) → m < l.m → (n : ℕ) × NeededFor game top t l.row l.place m n × (n ≤ l.most))
-    × ((m : ℕ) × NeededFor game top t l.row l.place m l.most)
+    × ((l.most ≡ 0) ⊎ ((m : ℕ) × NeededFor game top t l.row l.place m l.most))
