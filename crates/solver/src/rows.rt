@@ -99,9 +99,9 @@ fn changed_rows<B: Board, V: Graded>(
             return Err(keeps_changing(budget));
         }
         take_over(row, next, changed, changes);
-        let moves = origins.moves_to(changed, changes);
-        origins.refresh_all(vessel, row, changed, changes, moves, needs);
-        let again = origins.list_again(changed, changes, moves, list, flags);
+        let most = origins.lead_most(changed, changes);
+        origins.refresh_all(vessel, row, changed, changes, most, needs);
+        let again = origins.list_again(changed, changes, most, list, flags);
         changes = remake(table, vessel, row, needs, next, list, again, flags, changed);
         rounds += 1;
     }

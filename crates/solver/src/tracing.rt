@@ -56,8 +56,8 @@ impl<B: Board> Origins<'_, B> {
         Some(count)
     }
 
-    // How many moves lead to the places of the list.
-    pub(crate) fn moves_to(&self, targets: &[u32], count: usize) -> usize
+    // Whether most moves lead to the places of the list, so that it is cheaper to go over all moves.
+    pub(crate) fn lead_most(&self, targets: &[u32], count: usize) -> bool
         requires count { count ≤ length targets.now }
         requires inside { (i : ℕ) → i < count → slice_index targets.now i < (B.Board.game self.now.table.board.now).places }
     {
@@ -67,15 +67,33 @@ impl<B: Board> Origins<'_, B> {
             let target = targets[i] as usize;
             moves = moves.saturating_add(begins[target + 1].saturating_sub(begins[target]));
         }
-        moves
+        moves > self.table.edges.len() / 2
     }
 
-    // Lists and flags the places whose entries may change after those of the changed places did, to which so many moves lead, and answers how many they are: all places where there are no more places than moves.
+    // Whether the places of the list have few sources, so that it is cheaper to look at these than at all places.
+    fn has_few_sources(&self, changed: &[u32], changes: usize) -> bool
+        requires { changes ≤ length changed.now }
+    {
+        let sources = &self.sources;
+        let mut count = 0usize;
+        for i in 0..changes {
+            let target = changed[i] as usize;
+            if let (Some(begin), Some(end)) = (
+                sources.begins.get(target),
+                sources.ends.get(target),
+            ) {
+                count = count.saturating_add(end.saturating_sub(*begin));
+            }
+        }
+        count < sources.begins.len()
+    }
+
+    // Lists and flags the places whose entries may change after those of the changed places did, and answers how many they are: all places where most moves lead to changed ones.
     pub(crate) fn list_again(
         &self,
         changed: &[u32],
         changes: usize,
-        moves: usize,
+        most: bool,
         list: &mut [u32],
         flags: &mut [bool],
     ) -> usize
@@ -86,7 +104,8 @@ impl<B: Board> Origins<'_, B> {
         ensures after { IsWorklist list.new result flags.new }
         ensures flagged { (i p : ℕ) → i < changes → p < length flags.new → IsSource self.now.sources.begins.items self.now.sources.ends.items self.now.sources.places.items (slice_index changed.now i) p → Flagged flags.new p }
     {
-        if moves < flags.len()
+        if !most
+            && self.has_few_sources(changed, changes)
             && let Some(count) = self.add_all_sources(changed, changes, list, flags)
         {
             return count;
@@ -101,7 +120,7 @@ impl<B: Board> Origins<'_, B> {
         row: &[u32],
         changed: &[u32],
         changes: usize,
-        moves: usize,
+        most: bool,
         needs: &mut [u32],
     )
         requires changes { changes ≤ length changed.now }
@@ -112,7 +131,7 @@ impl<B: Board> Origins<'_, B> {
         ensures rest { (k : ℕ) → (slice_index needs.new k ≡ slice_index needs.old k) ⊎ RightNeed (V.Vessel.top vessel.now) (V.Vessel.table vessel.now) row.now self.now.table.edges.items needs.new k }
     {
         let edges = self.table.edges.as_slice();
-        if moves > edges.len() / 2 {
+        if most {
             fill_needs(vessel, row, edges, needs);
             return;
         }

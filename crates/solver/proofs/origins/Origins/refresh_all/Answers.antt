@@ -26,8 +26,8 @@ loop-i-preserved g c =
 pub returns-clause-parts : goal.returns-clause-parts
 returns-clause-parts g c = λ i lt. c.loop-i.invariant.0 i (omega arith)
 
-pub returns-then-moves-edges-clause-parts : goal.returns-then-moves-edges-clause-parts
-returns-then-moves-edges-clause-parts g c = λ i lt k e arc is leads.
+pub returns-then-most-clause-parts : goal.returns-then-most-clause-parts
+returns-then-most-clause-parts g c = λ i lt k e arc is leads.
     let top = g.V.Vessel.top c.args.vessel.now in
     let t = g.V.Vessel.table c.args.vessel.now in
     subst (λ (xs : List Edge). RightNeeds top t c.args.row.now xs c.fill_needs.new.needs) c.as_slice-edges.ensures.value c.fill_needs.ensures k e is
