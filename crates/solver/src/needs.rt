@@ -61,7 +61,7 @@ pub(crate) fn fill_needs<V: Graded>(vessel: &V, row: &[u32], edges: &[Edge], nee
 // Writes again what the move in this slot needs for the wanted level, if it leads to the target.
 fn refresh_slot<V: Graded>(
     vessel: &V,
-    numbers: &[usize],
+    numbers: &[u32],
     edges: &[Edge],
     target: u32,
     wanted: u32,
@@ -72,9 +72,10 @@ fn refresh_slot<V: Graded>(
     ensures here { slot < length numbers.now → (e : Edge) → slice_get edges.now (slice_index numbers.now slot) ≡ Some e → e.target ≡ target → Parts (V.Vessel.top vessel.now) (Reaches (V.Vessel.table vessel.now) wanted e.amount) (slice_index needs.new (slice_index numbers.now slot)) }
     ensures rest { (k : ℕ) → (slice_index needs.new k ≡ slice_index needs.old k) ⊎ RightFor (V.Vessel.top vessel.now) (V.Vessel.table vessel.now) target wanted edges.now needs.new k }
 {
-    let Some(&k) = numbers.get(slot) else {
+    let Some(&number) = numbers.get(slot) else {
         return;
     };
+    let k = number as usize;
     if k >= edges.len() || edges[k].target != target {
         return;
     }
