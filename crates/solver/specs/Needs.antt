@@ -3,7 +3,6 @@ use Rattle.std.specs.Prelude.{◌≡◌, ℕ, List, Some, slice_index}
 use Rattle.std.specs.List.{slice_get}
 use Rattle.game.specs.declared.Edge.{Edge}
 use Rattle.game.specs.Vessel.{Table}
-use Rattle.game.specs.Rows.{Reaches}
 use Rattle.solver.specs.Least.{Parts}
 use Rattle.solver.specs.Origins.{IsArc}
 use Rattle.solver.specs.RowSteps.{Serves}
@@ -24,8 +23,3 @@ RightNeeds top t row edges needs = (k : ℕ) → RightNeed top t row edges needs
 abbrev pub RefreshesPart : ℕ → Table → List ℕ → List Edge → List ℕ → List ℕ → List ℕ → ℕ → List ℕ → Type 0
 RefreshesPart top t row edges begins numbers slots q needs =
     (k : ℕ) (e : Edge) → IsArc begins numbers slots q k → slice_get edges k ≡ Some e → e.target ≡ q → Parts top (Serves t row e) (slice_index needs k)
-
--- the move with this number leads to q, and its need is the lowest level from which it leads to the wanted level or above, or never
-abbrev pub RightFor : ℕ → Table → ℕ → ℕ → List Edge → List ℕ → ℕ → Type 0
-RightFor top t q wanted edges needs k =
-    (e : Edge) → slice_get edges k ≡ Some e → (e.target ≡ q) × Parts top (Reaches t wanted e.amount) (slice_index needs k)

@@ -4,7 +4,8 @@ ghost use Rattle.std.specs.List.{slice_get};
 ghost use Rattle.game.specs.declared.Edge.{Edge};
 ghost use Rattle.game.specs.Rows.{Reaches};
 ghost use Rattle.solver.specs.Least.{Parts};
-ghost use Rattle.solver.specs.Needs.{RightNeed, RightNeeds, AreWanted, RefreshesPart, RightFor};
+ghost use Rattle.solver.specs.Needs.{RightNeed, RightNeeds, AreWanted, RefreshesPart};
+ghost use Rattle.solver.specs.Origins.{PartLeads};
 
 use super::NEVER;
 use super::arcs::Arcs;
@@ -58,30 +59,6 @@ pub(crate) fn fill_needs<V: Graded>(vessel: &V, row: &[u32], edges: &[Edge], nee
     put_needs(vessel, edges, needs);
 }
 
-// Writes again what the move in this slot needs for the wanted level, if it leads to the target.
-fn refresh_slot<V: Graded>(
-    vessel: &V,
-    numbers: &[u32],
-    edges: &[Edge],
-    target: u32,
-    wanted: u32,
-    slot: usize,
-    needs: &mut [u32],
-)
-    requires { length edges.now ≤ length needs.old }
-    ensures here { slot < length numbers.now → (e : Edge) → slice_get edges.now (slice_index numbers.now slot) ≡ Some e → e.target ≡ target → Parts (V.Vessel.top vessel.now) (Reaches (V.Vessel.table vessel.now) wanted e.amount) (slice_index needs.new (slice_index numbers.now slot)) }
-    ensures rest { (k : ℕ) → (slice_index needs.new k ≡ slice_index needs.old k) ⊎ RightFor (V.Vessel.top vessel.now) (V.Vessel.table vessel.now) target wanted edges.now needs.new k }
-{
-    let Some(&number) = numbers.get(slot) else {
-        return;
-    };
-    let k = number as usize;
-    if k >= edges.len() || edges[k].target != target {
-        return;
-    }
-    needs[k] = need_of(vessel, wanted, edges[k]);
-}
-
 impl Arcs {
     // Writes again what each move to the target needs for its entry.
     #[inline(never)]
@@ -95,16 +72,22 @@ impl Arcs {
     )
         requires target { target < length row.now }
         requires begins { target + 1 < length self.now.begins.items }
+        requires led { PartLeads edges.now self.now.begins.items self.now.numbers.items self.now.amounts.items target }
         requires room { length edges.now ≤ length needs.old }
         ensures part { RefreshesPart (V.Vessel.top vessel.now) (V.Vessel.table vessel.now) row.now edges.now self.now.begins.items self.now.numbers.items self.now.slots.items target needs.new }
         ensures rest { (k : ℕ) → (slice_index needs.new k ≡ slice_index needs.old k) ⊎ RightNeed (V.Vessel.top vessel.now) (V.Vessel.table vessel.now) row.now edges.now needs.new k }
     {
         let wanted = row[target as usize];
         let numbers = self.numbers.as_slice();
+        let amounts = self.amounts.as_slice();
         let begin = self.begins[target as usize];
         let end = self.begins[target as usize + 1];
         for slot in begin..end {
-            refresh_slot(vessel, numbers, edges, target, wanted, slot, needs);
+            let edge = Edge {
+                target,
+                amount: amounts[slot],
+            };
+            needs[numbers[slot] as usize] = need_of(vessel, wanted, edge);
         }
     }
 }

@@ -1,7 +1,8 @@
 -- What is left to show of `refresh_all`.
-use Rattle.std.proofs.Common.{◌≡◌, ℕ, ◌⊎◌, List, slice_index, subst, arith, below_more}
+use Rattle.std.proofs.Common.{◌≡◌, ℕ, ◌⊎◌, List, slice_index, sym, subst, arith, below_more}
 use Rattle.game.specs.declared.Edge.{Edge}
 use Rattle.solver.specs.Needs.{RightNeed, RightNeeds, RefreshesPart}
+use Rattle.solver.specs.Origins.{PartLeads}
 use Rattle.solver.proofs.Refreshing.{part_still, rest_on}
 use Rattle.solver.proofs.origins.Origins.refresh_all.Goals as goal
 
@@ -31,3 +32,10 @@ returns-then-most-clause-parts g c = λ i lt k e arc is leads.
     let top = g.V.Vessel.top c.args.vessel.now in
     let t = g.V.Vessel.table c.args.vessel.now in
     subst (λ (xs : List Edge). RightNeeds top t c.args.row.now xs c.fill_needs.new.needs) c.as_slice-edges.ensures.value c.fill_needs.ensures k e is
+
+pub refresh-requires-clause-led : goal.refresh-requires-clause-led
+refresh-requires-clause-led g c =
+    let arcs = c.args.self.now.arcs in
+    let q = slice_index c.args.changed.now c.loop-i.i in
+    subst (λ (xs : List Edge). PartLeads xs arcs.begins.items arcs.numbers.items arcs.amounts.items q) (sym c.as_slice-edges.ensures.value)
+    (c.args.self.now.led q (c.requires.inside c.loop-i.i c.loop-i-test.true))
