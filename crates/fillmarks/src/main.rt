@@ -12,7 +12,7 @@ fn print_place(rt: &HostRuntime, line: &FileLine, p: u32, fills: &[u32]) -> io::
     let (Some(owner), Some(name)) = (line.owner(p), line.name(p as usize)) else {
         return Ok(());
     };
-    let text = name.text();
+    let text = name.text;
     let count = fills.iter().filter(|entry| **entry == NEVER).count();
     match fills.iter().position(|entry| *entry == NEVER) {
         Some(level) => println!(rt; "{p} {owner} {count} good from {level} {text}"),
@@ -28,7 +28,7 @@ fn print_marks<'x>(rt: &HostRuntime, line: &'x FileLine, vessel: &'x AnyVessel) 
         Ok(rounds) => {
             println!(rt; "{line} rounds {rounds}")?;
             let levels = vessel.top() as usize + 1;
-            for (p, fills) in (0..Board::places(line)).zip(marks.chunks_exact(levels)) {
+            for (p, fills) in (0..line.places()).zip(marks.chunks_exact(levels)) {
                 print_place(rt, line, p, fills)?;
             }
             Ok(())

@@ -1,6 +1,7 @@
--- Searches below a bound, and a number that rises until something stops.
+-- Searches below a bound, and what only grows, until it stops.
 use Rattle.std.proofs.Common.{◌≡◌, ℕ, zero, suc, ◌<◌, ◌≤◌, ◌⊎◌, subst, inl, inr, arith}
 use native.Mathlib.Decide.{dec_lt}
+use Rattle.game.proofs.Sums.{sum_below, sum_lt, sum_const}
 
 -- what holds below n and at n holds below n + 1
 below_suc : (P : ℕ → Type 0) (n : ℕ) → ((y : ℕ) → y < n → P y) → P n → (y : ℕ) → y < suc n → P y
@@ -43,9 +44,44 @@ module _ (Stop : ℕ → Type 0) (total : ℕ → ℕ) (look : (j : ℕ) → Sto
       go (inr le) (inl s) = inl (k, omega arith, s)
       go (inr le) (inr lt) = inr (omega arith)
 
-  pub stops_within : (n : ℕ) → ((j : ℕ) → total j ≤ n) → (j : ℕ) × (j ≤ n) × Stop j
+  stops_within : (n : ℕ) → ((j : ℕ) → total j ≤ n) → (j : ℕ) × (j ≤ n) × Stop j
   stops_within n most = go (either (suc n)) (most (suc n))
     where
       go : ((j : ℕ) × (j < suc n) × Stop j) ⊎ (suc n ≤ total (suc n)) → total (suc n) ≤ n → (j : ℕ) × (j ≤ n) × Stop j
       go (inl w) small = (w.0, omega (arith, w.1), w.2)
       go (inr le) small = absurd (omega arith)
+
+abbrev one_if : {A : Type 0} → Dec A → ℕ
+one_if (yes a) = 1
+one_if (no n) = 0
+
+-- what is so of some of n numbers, and at each step of no fewer, is so of no more within n steps
+module _ (n : ℕ) (A : ℕ → ℕ → Type 0) (dec : (j k : ℕ) → Dec (A j k)) (grow : (j k : ℕ) → A j k → A (suc j) k) where
+  abbrev size : ℕ → ℕ
+  size j = sum_below n (λ k. one_if (dec j k))
+
+  abbrev Settled : ℕ → Type 0
+  Settled j = (k : ℕ) → k < n → A (suc j) k → A j k
+
+  look : (j : ℕ) → Settled j ⊎ (size j < size (suc j))
+  look j = elim (search_below n (λ k. A (suc j) k → A j k) (λ k. one_if (dec j k) < one_if (dec (suc j) k)) (λ k lt. more k (dec j k) (dec (suc j) k))) [
+    | inl s ↦ inl s
+    | inr w ↦ inr (sum_lt n (λ k. one_if (dec j k)) (λ k. one_if (dec (suc j) k)) (λ k lt. no_less k (dec j k) (dec (suc j) k)) w.0 w.1 w.2)
+  ]
+    where
+      more : (k : ℕ) (d : Dec (A j k)) (e : Dec (A (suc j) k)) → (A (suc j) k → A j k) ⊎ (one_if d < one_if e)
+      more k (yes a) e = inl (λ b. a)
+      more k (no m) (yes b) = inr (omega arith)
+      more k (no m) (no m') = inl (λ b. absurd (m' b))
+
+      no_less : (k : ℕ) (d : Dec (A j k)) (e : Dec (A (suc j) k)) → one_if d ≤ one_if e
+      no_less k (yes a) (yes b) = omega arith
+      no_less k (yes a) (no m) = absurd (m (grow j k a))
+      no_less k (no m) e = omega arith
+
+  pub settles : (j : ℕ) × (j ≤ n) × Settled j
+  settles = stops_within Settled size look n (λ j. omega (arith, sum_const n 1 (λ k. one_if (dec j k)) (λ k lt. at_most (dec j k))))
+    where
+      at_most : {B : Type 0} (d : Dec B) → one_if d ≤ 1
+      at_most (yes a) = omega arith
+      at_most (no m) = omega arith

@@ -3,11 +3,11 @@ use Rattle.std.proofs.Common.{◌≡◌, ℕ, zero, suc, ◌+◌, ◌-◌, ◌<�
 use native.Mathlib.Decide.{dec_lt}
 use Rattle.std.specs.List.{slice_get}
 use Rattle.game.specs.Game.{Edge, Place, Game, SoundPlace, WellFormed}
-use Rattle.game.specs.Vessel.{Table, Keeps, lip, closed, drawn, unlimited}
+use Rattle.game.specs.Vessel.{Table, Hopper, Keeps, lip, closed, drawn, unlimited}
 use Rattle.game.specs.Fill.{Holds, Good, IsMark, LeastGood, IsRow, IsLeast, Repeats, FirstRepeat}
-use Rattle.game.specs.Rows.{Need, Graded, need_lip}
-use Rattle.game.proofs.RowMaking.{need_drawn, row_of}
-use Rattle.game.specs.Cases.{two, line_p, line_q, LeastAre, MarksAre, LargestMark, WorkedCases}
+use Rattle.game.specs.Rows.{Need, Graded, need_lip, need_drawn}
+use Rattle.game.proofs.RowMaking.{row_of}
+use Rattle.game.specs.Cases.{two, line_p, line_q, LeastAre, MarksAre, SomeMark, IsLargestMark, WorkedCases}
 use Rattle.game.proofs.Base.{none_some, some_inj, not_dec, stable, find, choice_dec, pours_dec, step_dec, holds_dec, holds_le}
 use Rattle.game.proofs.Lip.{lip_at_drop_sum_is_no_lip}
 use Rattle.game.proofs.Rows.{need_makes_rows, repeated_row_is_least_good, unique}
@@ -39,8 +39,8 @@ formed_p =
       some_place = omega arith;
       few_places = omega arith;
       here = below_two (λ p. (q : Place) × (line_p.at p ≡ Some q) × SoundPlace line_p q)
-          (_, refl, record { some_move = omega arith; few_moves = omega arith; targets = one_move _ _ (omega arith); amounts = one_move _ _ (omega arith) })
-          (_, refl, record { some_move = omega arith; few_moves = omega arith; targets = one_move _ _ (omega arith); amounts = one_move _ _ (omega arith) });
+          (_, refl, record { sound = record { some_move = omega arith; few_moves = omega arith; targets = one_move _ _ (omega arith) }; amounts = one_move _ _ (omega arith) })
+          (_, refl, record { sound = record { some_move = omega arith; few_moves = omega arith; targets = one_move _ _ (omega arith) }; amounts = one_move _ _ (omega arith) });
       gone = past_two _ _;
     }
 
@@ -50,8 +50,8 @@ formed_q =
       some_place = omega arith;
       few_places = omega arith;
       here = below_two (λ p. (q : Place) × (line_q.at p ≡ Some q) × SoundPlace line_q q)
-          (_, refl, record { some_move = omega arith; few_moves = omega arith; targets = two_moves _ _ _ (omega arith) (omega arith); amounts = two_moves _ _ _ (omega arith) (omega arith) })
-          (_, refl, record { some_move = omega arith; few_moves = omega arith; targets = two_moves _ _ _ (omega arith) (omega arith); amounts = two_moves _ _ _ (omega arith) (omega arith) });
+          (_, refl, record { sound = record { some_move = omega arith; few_moves = omega arith; targets = two_moves _ _ _ (omega arith) (omega arith) }; amounts = two_moves _ _ _ (omega arith) (omega arith) })
+          (_, refl, record { sound = record { some_move = omega arith; few_moves = omega arith; targets = two_moves _ _ _ (omega arith) (omega arith) }; amounts = two_moves _ _ _ (omega arith) (omega arith) });
       gone = past_two _ _;
     }
 
@@ -60,23 +60,23 @@ formed_q =
 abbrev Same : Game → Need → ℕ → Type 0
 Same g need j = (p : ℕ) → p < g.places → row_of g need j p ≡ row_of g need (suc j) p
 
-module _ (g : Game) (wf : WellFormed g) (top : ℕ) (t : Table) (keeps : Keeps top t) (need : Need) (graded : Graded top t need) (j : ℕ) where
-  rows : (i : ℕ) → IsRow g t top i (row_of g need i)
-  rows = need_makes_rows g wf top t keeps need graded
+module _ (g : Game) (wf : WellFormed g) (v : Hopper) (keeps : Keeps v) (need : Need) (graded : Graded v need) (j : ℕ) where
+  rows : (i : ℕ) → IsRow g v i (row_of g need i)
+  rows = need_makes_rows g wf v keeps need graded
 
-  repeats : Same g need j → Repeats g top t j
-  repeats same = (row_of g need j, rows j, λ p lt. subst (IsLeast (λ c. (c ≤ top) × Holds g t (suc j) p c)) (sym (same p lt)) (rows (suc j) p lt))
+  repeats : Same g need j → Repeats g v j
+  repeats same = (row_of g need j, rows j, λ p lt. subst (IsLeast (λ c. (c ≤ v.top) × Holds g v.table (suc j) p c)) (sym (same p lt)) (rows (suc j) p lt))
 
-  repeats_same : (i : ℕ) → Repeats g top t i → Same g need i
+  repeats_same : (i : ℕ) → Repeats g v i → Same g need i
   repeats_same i w p lt =
-      unique.row g t top i (row_of g need i) w.0 (rows i) w.1 p lt ∙ unique.row g t top (suc i) w.0 (row_of g need (suc i)) w.2 (rows (suc i)) p lt
+      unique.row g v i (row_of g need i) w.0 (rows i) w.1 p lt ∙ unique.row g v (suc i) w.0 (row_of g need (suc i)) w.2 (rows (suc i)) p lt
 
   module _ (same : Same g need j) where
-    least_row : (p : ℕ) → p < g.places → LeastGood g t p (row_of g need j p)
+    least_row : (p : ℕ) → p < g.places → LeastGood g v.table p (row_of g need j p)
     unfolding repeats
-    least_row p lt = let w = repeats same in repeated_row_is_least_good g wf top t keeps need graded j w.0 w.1 w.2 p lt
+    least_row p lt = let w = repeats same in repeated_row_is_least_good g wf v keeps need graded j w.0 w.1 w.2 p lt
 
-    rounds : ((i : ℕ) → i < j → ¬ Same g need i) → FirstRepeat g top t j
+    rounds : ((i : ℕ) → i < j → ¬ Same g need i) → FirstRepeat g v j
     rounds before = (repeats same, λ i lt w. before i lt (repeats_same i w))
 
 zero_not : {n : ℕ} → Some 0 ≡ Some (suc n) → ⊥
@@ -97,42 +97,42 @@ up_to_3 S a b c (suc zero) lt = b
 up_to_3 S a b c (suc (suc zero)) lt = c
 up_to_3 S a b c (suc (suc (suc i))) lt = absurd (omega arith)
 
-case_p6 : LeastAre line_p (lip 6) (Some 0) (Some 5) × FirstRepeat line_p 6 (lip 6) 1
+case_p6 : LeastAre line_p (lip 6).table (Some 0) (Some 5) × FirstRepeat line_p (lip 6) 1
 case_p6 =
     let s : Same line_p (need_lip 6) 1 = below_two (λ p. row_of line_p (need_lip 6) 1 p ≡ row_of line_p (need_lip 6) 2 p) refl refl in
     let k = vessels_keep_rules 6 0 (omega arith) in
-    let l = least_row line_p formed_p 6 (lip 6) k.lip_keeps (need_lip 6) k.lip_graded 1 s in
-    ((l 0 (omega arith), l 1 (omega arith)), rounds line_p formed_p 6 (lip 6) k.lip_keeps (need_lip 6) k.lip_graded 1 s (up_to_1 (Same line_p (need_lip 6)) (λ e. zero_not (e 1 (omega arith)))))
+    let l = least_row line_p formed_p (lip 6) k.lip_keeps (need_lip 6) k.lip_graded 1 s in
+    ((l 0 (omega arith), l 1 (omega arith)), rounds line_p formed_p (lip 6) k.lip_keeps (need_lip 6) k.lip_graded 1 s (up_to_1 (Same line_p (need_lip 6)) (λ e. zero_not (e 1 (omega arith)))))
 
-case_p5 : LeastAre line_p (lip 5) (Some 0) (Some 5) × FirstRepeat line_p 5 (lip 5) 1
+case_p5 : LeastAre line_p (lip 5).table (Some 0) (Some 5) × FirstRepeat line_p (lip 5) 1
 case_p5 =
     let s : Same line_p (need_lip 5) 1 = below_two (λ p. row_of line_p (need_lip 5) 1 p ≡ row_of line_p (need_lip 5) 2 p) refl refl in
     let k = vessels_keep_rules 5 0 (omega arith) in
-    let l = least_row line_p formed_p 5 (lip 5) k.lip_keeps (need_lip 5) k.lip_graded 1 s in
-    ((l 0 (omega arith), l 1 (omega arith)), rounds line_p formed_p 5 (lip 5) k.lip_keeps (need_lip 5) k.lip_graded 1 s (up_to_1 (Same line_p (need_lip 5)) (λ e. zero_not (e 1 (omega arith)))))
+    let l = least_row line_p formed_p (lip 5) k.lip_keeps (need_lip 5) k.lip_graded 1 s in
+    ((l 0 (omega arith), l 1 (omega arith)), rounds line_p formed_p (lip 5) k.lip_keeps (need_lip 5) k.lip_graded 1 s (up_to_1 (Same line_p (need_lip 5)) (λ e. zero_not (e 1 (omega arith)))))
 
-case_p4 : LeastAre line_p (lip 4) None None × FirstRepeat line_p 4 (lip 4) 2
+case_p4 : LeastAre line_p (lip 4).table None None × FirstRepeat line_p (lip 4) 2
 case_p4 =
     let s : Same line_p (need_lip 4) 2 = below_two (λ p. row_of line_p (need_lip 4) 2 p ≡ row_of line_p (need_lip 4) 3 p) refl refl in
     let k = vessels_keep_rules 4 0 (omega arith) in
-    let l = least_row line_p formed_p 4 (lip 4) k.lip_keeps (need_lip 4) k.lip_graded 2 s in
-    ((l 0 (omega arith), l 1 (omega arith)), rounds line_p formed_p 4 (lip 4) k.lip_keeps (need_lip 4) k.lip_graded 2 s (up_to_2 (Same line_p (need_lip 4)) (λ e. none_some (sym (e 1 (omega arith)))) (λ e. none_some (sym (e 0 (omega arith))))))
+    let l = least_row line_p formed_p (lip 4) k.lip_keeps (need_lip 4) k.lip_graded 2 s in
+    ((l 0 (omega arith), l 1 (omega arith)), rounds line_p formed_p (lip 4) k.lip_keeps (need_lip 4) k.lip_graded 2 s (up_to_2 (Same line_p (need_lip 4)) (λ e. none_some (sym (e 1 (omega arith)))) (λ e. none_some (sym (e 0 (omega arith))))))
 
-case_drawn : LeastAre line_p (drawn 6 1) None None × FirstRepeat line_p 6 (drawn 6 1) 3
+case_drawn : LeastAre line_p (drawn 6 1).table None None × FirstRepeat line_p (drawn 6 1) 3
 case_drawn =
     let s : Same line_p (need_drawn 6 1) 3 = below_two (λ p. row_of line_p (need_drawn 6 1) 3 p ≡ row_of line_p (need_drawn 6 1) 4 p) refl refl in
     let k = vessels_keep_rules 6 1 (omega arith) in
-    let l = least_row line_p formed_p 6 (drawn 6 1) k.drawn_keeps (need_drawn 6 1) k.drawn_graded 3 s in (
+    let l = least_row line_p formed_p (drawn 6 1) k.drawn_keeps (need_drawn 6 1) k.drawn_graded 3 s in (
       (l 0 (omega arith), l 1 (omega arith)),
-      rounds line_p formed_p 6 (drawn 6 1) k.drawn_keeps (need_drawn 6 1) k.drawn_graded 3 s (up_to_3 (Same line_p (need_drawn 6 1)) (λ e. zero_not (e 1 (omega arith))) (λ e. none_some (sym (e 0 (omega arith)))) (λ e. none_some (sym (e 1 (omega arith))))),
+      rounds line_p formed_p (drawn 6 1) k.drawn_keeps (need_drawn 6 1) k.drawn_graded 3 s (up_to_3 (Same line_p (need_drawn 6 1)) (λ e. zero_not (e 1 (omega arith))) (λ e. none_some (sym (e 0 (omega arith)))) (λ e. none_some (sym (e 1 (omega arith))))),
     )
 
-case_q10 : LeastAre line_q (lip 10) (Some 0) (Some 2) × FirstRepeat line_q 10 (lip 10) 1
+case_q10 : LeastAre line_q (lip 10).table (Some 0) (Some 2) × FirstRepeat line_q (lip 10) 1
 case_q10 =
     let s : Same line_q (need_lip 10) 1 = below_two (λ p. row_of line_q (need_lip 10) 1 p ≡ row_of line_q (need_lip 10) 2 p) refl refl in
     let k = vessels_keep_rules 10 0 (omega arith) in
-    let l = least_row line_q formed_q 10 (lip 10) k.lip_keeps (need_lip 10) k.lip_graded 1 s in
-    ((l 0 (omega arith), l 1 (omega arith)), rounds line_q formed_q 10 (lip 10) k.lip_keeps (need_lip 10) k.lip_graded 1 s (up_to_1 (Same line_q (need_lip 10)) (λ e. zero_not (e 1 (omega arith)))))
+    let l = least_row line_q formed_q (lip 10) k.lip_keeps (need_lip 10) k.lip_graded 1 s in
+    ((l 0 (omega arith), l 1 (omega arith)), rounds line_q formed_q (lip 10) k.lip_keeps (need_lip 10) k.lip_graded 1 s (up_to_1 (Same line_q (need_lip 10)) (λ e. zero_not (e 1 (omega arith)))))
 
 case_free : LeastAre line_p unlimited (Some 0) (Some 5)
 case_free = (
@@ -190,35 +190,35 @@ from_follows (yes a) (yes b) h x = b
 from_follows (yes a) (no n) h x = absurd h
 from_follows (no n) e h x = absurd (n x)
 
-settled : Game → ℕ → Table → ℕ → Bool
-settled g top t j = all_below g.places (λ p. all_below (suc top) (λ c. follows (holds_dec g t j p c) (holds_dec g t (suc j) p c)))
+settled : Game → Hopper → ℕ → Bool
+settled g v j = all_below g.places (λ p. all_below (suc v.top) (λ c. follows (holds_dec g v.table j p c) (holds_dec g v.table (suc j) p c)))
 
-settled_good : (g : Game) → WellFormed g → (top : ℕ) (t : Table) → Keeps top t → (j : ℕ) → T (settled g top t j) → (p c : ℕ) → p < g.places → c ≤ top
-    → T (holds_yes (holds_dec g t j p c)) → Good g t p c
+settled_good : (g : Game) → WellFormed g → (v : Hopper) → Keeps v → (j : ℕ) → T (settled g v j) → (p c : ℕ) → p < g.places → c ≤ v.top
+    → T (holds_yes (holds_dec g v.table j p c)) → Good g v.table p c
 unfolding settled
-settled_good g wf top t keeps j ok p c lt le y =
-    stage_good g wf top t keeps.within j
-    (λ p lt c lc. from_follows (holds_dec g t j p c) (holds_dec g t (suc j) p c)
-    (all_at (suc top) (λ c. follows (holds_dec g t j p c) (holds_dec g t (suc j) p c))
-    (all_at g.places (λ p. all_below (suc top) (λ c. follows (holds_dec g t j p c) (holds_dec g t (suc j) p c))) ok p lt) c lc))
-    p c lt le (from_yes (holds_dec g t j p c) y)
+settled_good g wf v keeps j ok p c lt le y =
+    stage_good g wf v keeps.within j
+    (λ p lt c lc. from_follows (holds_dec g v.table j p c) (holds_dec g v.table (suc j) p c)
+    (all_at (suc v.top) (λ c. follows (holds_dec g v.table j p c) (holds_dec g v.table (suc j) p c))
+    (all_at g.places (λ p. all_below (suc v.top) (λ c. follows (holds_dec g v.table j p c) (holds_dec g v.table (suc j) p c))) ok p lt) c lc))
+    p c lt le (from_yes (holds_dec g v.table j p c) y)
 
-case_closed_p : MarksAre line_p (closed 6) 0 0 (None ∷ None ∷ Some 1 ∷ Some 1 ∷ Some 1 ∷ Some 1 ∷ Some 1 ∷ []) × MarksAre line_p (closed 6) 1 0 (Some 1 ∷ Some 1 ∷ Some 1 ∷ Some 1 ∷ Some 1 ∷ None ∷ None ∷ [])
+case_closed_p : MarksAre line_p (closed 6).table 0 0 (None ∷ None ∷ Some 1 ∷ Some 1 ∷ Some 1 ∷ Some 1 ∷ Some 1 ∷ []) × MarksAre line_p (closed 6).table 1 0 (Some 1 ∷ Some 1 ∷ Some 1 ∷ Some 1 ∷ Some 1 ∷ None ∷ None ∷ [])
 unfolding holds_yes holds_no holds_dec step_dec choice_dec find pours_dec not_dec stable all_below follows settled
 case_closed_p =
     let k = (vessels_keep_rules 6 0 (omega arith)).closed_keeps in
-    let good : (p c : ℕ) → p < 2 → c ≤ 6 → T (holds_yes (holds_dec line_p (closed 6) 1 p c)) → Good line_p (closed 6) p c =
-    settled_good line_p formed_p 6 (closed 6) k 1 tt in
-    let one : (p c : ℕ) → T (holds_no (holds_dec line_p (closed 6) 1 p c)) → IsMark line_p (closed 6) p c (Some 1) = λ p c m. marked line_p (closed 6) p c 0 tt m in (
+    let good : (p c : ℕ) → p < 2 → c ≤ 6 → T (holds_yes (holds_dec line_p (closed 6).table 1 p c)) → Good line_p (closed 6).table p c =
+    settled_good line_p formed_p (closed 6) k 1 tt in
+    let one : (p c : ℕ) → T (holds_no (holds_dec line_p (closed 6).table 1 p c)) → IsMark line_p (closed 6).table p c (Some 1) = λ p c m. marked line_p (closed 6).table p c 0 tt m in (
       (good 0 0 (omega arith) (omega arith) tt, (good 0 1 (omega arith) (omega arith) tt, (one 0 2 tt, (one 0 3 tt, (one 0 4 tt, (one 0 5 tt, (one 0 6 tt, tt))))))),
       (one 1 0 tt, (one 1 1 tt, (one 1 2 tt, (one 1 3 tt, (one 1 4 tt, (good 1 5 (omega arith) (omega arith) tt, (good 1 6 (omega arith) (omega arith) tt, tt))))))),
     )
 
-case_closed_q : MarksAre line_q (closed 5) 0 0 (Some 4 ∷ Some 4 ∷ Some 3 ∷ Some 3 ∷ Some 2 ∷ Some 2 ∷ []) × MarksAre line_q (closed 5) 1 0 (Some 1 ∷ Some 1 ∷ Some 1 ∷ Some 1 ∷ Some 1 ∷ Some 1 ∷ [])
+case_closed_q : MarksAre line_q (closed 5).table 0 0 (Some 4 ∷ Some 4 ∷ Some 3 ∷ Some 3 ∷ Some 2 ∷ Some 2 ∷ []) × MarksAre line_q (closed 5).table 1 0 (Some 1 ∷ Some 1 ∷ Some 1 ∷ Some 1 ∷ Some 1 ∷ Some 1 ∷ [])
 unfolding holds_yes holds_no holds_dec step_dec choice_dec find pours_dec not_dec stable
 case_closed_q =
-    let m : (p c n : ℕ) → T (holds_yes (holds_dec line_q (closed 5) n p c)) → T (holds_no (holds_dec line_q (closed 5) (suc n) p c)) → IsMark line_q (closed 5) p c (Some (suc n)) =
-    marked line_q (closed 5) in (
+    let m : (p c n : ℕ) → T (holds_yes (holds_dec line_q (closed 5).table n p c)) → T (holds_no (holds_dec line_q (closed 5).table (suc n) p c)) → IsMark line_q (closed 5).table p c (Some (suc n)) =
+    marked line_q (closed 5).table in (
       (m 0 0 3 tt tt, (m 0 1 3 tt tt, (m 0 2 2 tt tt, (m 0 3 2 tt tt, (m 0 4 1 tt tt, (m 0 5 1 tt tt, tt)))))),
       (m 1 0 0 tt tt, (m 1 1 0 tt tt, (m 1 2 0 tt tt, (m 1 3 0 tt tt, (m 1 4 0 tt tt, (m 1 5 0 tt tt, tt)))))),
     )
@@ -245,25 +245,25 @@ bounded g t p n c (o ∷ os) small marks d k le lt mark = go (dec_lt c d) o smal
     go (no not) None s m ih = absurd (none_some (here None m (omega arith)))
     go (no not) (Some x) s m ih = let e = some_inj (here (Some x) m (omega arith)) in omega (arith, s.0)
 
-rounds_p : LargestMark line_p 6 (closed 6) 1
+rounds_p : IsLargestMark line_p (closed 6) 1
 unfolding AtMost
 rounds_p = record {
-  most = λ p c k lt le m.
-      below_two (λ p. IsMark line_p (closed 6) p c (Some k) → k ≤ 1)
-      (bounded line_p (closed 6) 0 1 0 (None ∷ None ∷ Some 1 ∷ Some 1 ∷ Some 1 ∷ Some 1 ∷ Some 1 ∷ []) (omega arith, (omega arith, (omega arith, (omega arith, (omega arith, tt))))) case_closed_p.0 c k (omega arith) (omega arith))
-      (bounded line_p (closed 6) 1 1 0 (Some 1 ∷ Some 1 ∷ Some 1 ∷ Some 1 ∷ Some 1 ∷ None ∷ None ∷ []) (omega arith, (omega arith, (omega arith, (omega arith, (omega arith, tt))))) case_closed_p.1 c k (omega arith) (omega arith))
-      p lt m;
+  most = λ k w.
+      below_two (λ p. IsMark line_p (closed 6).table p w.1 (Some k) → k ≤ 1)
+      (bounded line_p (closed 6).table 0 1 0 (None ∷ None ∷ Some 1 ∷ Some 1 ∷ Some 1 ∷ Some 1 ∷ Some 1 ∷ []) (omega arith, (omega arith, (omega arith, (omega arith, (omega arith, tt))))) case_closed_p.0 w.1 k (omega arith) (omega (arith, w.3)))
+      (bounded line_p (closed 6).table 1 1 0 (Some 1 ∷ Some 1 ∷ Some 1 ∷ Some 1 ∷ Some 1 ∷ None ∷ None ∷ []) (omega arith, (omega arith, (omega arith, (omega arith, (omega arith, tt))))) case_closed_p.1 w.1 k (omega arith) (omega (arith, w.3)))
+      w.0 w.2 w.4;
   attained = (1, 0, omega arith, omega arith, case_closed_p.1.0);
 }
 
-rounds_q : LargestMark line_q 5 (closed 5) 4
+rounds_q : IsLargestMark line_q (closed 5) 4
 unfolding AtMost
 rounds_q = record {
-  most = λ p c k lt le m.
-      below_two (λ p. IsMark line_q (closed 5) p c (Some k) → k ≤ 4)
-      (bounded line_q (closed 5) 0 4 0 (Some 4 ∷ Some 4 ∷ Some 3 ∷ Some 3 ∷ Some 2 ∷ Some 2 ∷ []) (omega arith, (omega arith, (omega arith, (omega arith, (omega arith, (omega arith, tt)))))) case_closed_q.0 c k (omega arith) (omega arith))
-      (bounded line_q (closed 5) 1 4 0 (Some 1 ∷ Some 1 ∷ Some 1 ∷ Some 1 ∷ Some 1 ∷ Some 1 ∷ []) (omega arith, (omega arith, (omega arith, (omega arith, (omega arith, (omega arith, tt)))))) case_closed_q.1 c k (omega arith) (omega arith))
-      p lt m;
+  most = λ k w.
+      below_two (λ p. IsMark line_q (closed 5).table p w.1 (Some k) → k ≤ 4)
+      (bounded line_q (closed 5).table 0 4 0 (Some 4 ∷ Some 4 ∷ Some 3 ∷ Some 3 ∷ Some 2 ∷ Some 2 ∷ []) (omega arith, (omega arith, (omega arith, (omega arith, (omega arith, (omega arith, tt)))))) case_closed_q.0 w.1 k (omega arith) (omega (arith, w.3)))
+      (bounded line_q (closed 5).table 1 4 0 (Some 1 ∷ Some 1 ∷ Some 1 ∷ Some 1 ∷ Some 1 ∷ Some 1 ∷ []) (omega arith, (omega arith, (omega arith, (omega arith, (omega arith, (omega arith, tt)))))) case_closed_q.1 w.1 k (omega arith) (omega (arith, w.3)))
+      w.0 w.2 w.4;
   attained = (0, 0, omega arith, omega arith, case_closed_q.0.0);
 }
 

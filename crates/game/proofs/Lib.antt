@@ -17,4 +17,5 @@ pub mod Weights
 pub mod Unfold
 pub mod Vessels
 pub mod Forced
+pub mod Brought
 pub mod Cases

@@ -11,7 +11,7 @@ use Rattle.game.proofs.Base.{none_some, some_inj, stable, Through, good_stable, 
 use Rattle.game.proofs.Force.{sound_at}
 use Rattle.game.proofs.Sustain.{good_step}
 use Rattle.game.proofs.Pour.{up_to_above, unlimited_inv, unlimited_make, lip_inv, lip_make}
-use Rattle.game.proofs.Sums.{cover_sum, nn_least, nn_choice}
+use Rattle.game.proofs.Sums.{sum_is, cover_sum, nn_least, nn_choice}
 use Rattle.game.proofs.Levels.{good_level}
 
 -- ---- one table simulates another
@@ -40,7 +40,7 @@ free_free : (c c' : ℕ) (a : ℤ) (d : ℕ) → c ≤ c' → InLimits a → unl
 free_free c c' a d le lim h =
     (d + (c' - c), unlimited_make c' a (d + (c' - c)) (sum_more c c' d a le (unlimited_inv c a d h)), omega arith)
 
-lip_free : (b c c' : ℕ) (a : ℤ) (d : ℕ) → c ≤ c' → InLimits a → lip b c a ≡ Some d → (d' : ℕ) × (unlimited c' a ≡ Some d') × (d ≤ d')
+lip_free : (b c c' : ℕ) (a : ℤ) (d : ℕ) → c ≤ c' → InLimits a → (lip b).table c a ≡ Some d → (d' : ℕ) × (unlimited c' a ≡ Some d') × (d ≤ d')
 lip_free b c c' a d le lim h =
     let w = lip_inv b c a d h in
     (w.1 + (c' - c), unlimited_make c' a (w.1 + (c' - c)) (sum_more c c' w.1 a le w.2), omega (arith, w.3))
@@ -189,19 +189,20 @@ module _ (g : Game) (wf : WellFormed g) where
     bounded : (p x : ℕ) → w p ≡ Some x → x ≤ drop_sum g
     unfolding Spans value
     bounded p x e =
-        cover_sum g.places (λ y. value (w y)) (λ y. drop_at (g.at y)) x
+        let covered = cover_sum g.places (λ y. value (w y)) (λ y. drop_at (g.at y)) x
         (λ h pos-h le none. spans p x e h pos-h le (λ s.
         let same : value (w s.0) ≡ s.2.0 = ap value s.2.1 in
-        none (s.0, s.1, omega (arith, s.2.2), omega (arith, s.2.3))))
+        none (s.0, s.1, omega (arith, s.2.2), omega (arith, s.2.3)))) in
+        omega (arith, covered, sum_is g.places (λ y. drop_at (g.at y)))
 
     module _ (b : ℕ) (enough : drop_sum g ≤ b) where
       Under : ℕ → ℕ → Type 0
       Under p c = (x : ℕ) × (w p ≡ Some x) × (x ≤ c) × (c ≤ b)
 
-      under_step : (p c : ℕ) → Under p c → Step g (lip b) Under p c
+      under_step : (p c : ℕ) → Under p c → Step g (lip b).table Under p c
       unfolding Under
       under_step p c u =
-          step_through g wf unlimited (lip b) (Over w) Under p u.0 c
+          step_through g wf unlimited (lip b).table (Over w) Under p u.0 c
           (λ q at m e mv th.
           let n : ℕ = th.0 + (c - u.0) in
           let sum : pos c +ℤ e.amount ≡ pos n = sum_more u.0 c th.0 e.amount u.2 (unlimited_inv u.0 e.amount th.0 th.1) in
@@ -211,11 +212,11 @@ module _ (g : Game) (wf : WellFormed g) where
           (min n b, lip_make b c e.amount n u.3 ((sound_at g wf p q at).amounts m e mv) sum, (y, th.2.1, omega arith, omega arith)))
           (w_step p u.0 (w_below p u.0 u.1) u.1)
 
-      free_is_lip : (p c : ℕ) → Good g unlimited p c → c ≤ b → Good g (lip b) p c
+      free_is_lip : (p c : ℕ) → Good g unlimited p c → c ≤ b → Good g (lip b).table p c
       unfolding Under
       free_is_lip p c good le i =
           let o = good_over p c good in
-          good_by g (lip b) Under under_step i p c (o.0, o.1, o.2, le)
+          good_by g (lip b).table Under under_step i p c (o.0, o.1, o.2, le)
 
       free_at_drops : (p c : ℕ) → Good g unlimited p c → Good g unlimited p (drop_sum g)
       free_at_drops p c good =
@@ -246,23 +247,23 @@ module _ (g : Game) (wf : WellFormed g) where
       (λ p le. cut_out t.0 p (dec_lt p g.places) le)))
 
   module _ (b : ℕ) (enough : drop_sum g ≤ b) where
-    pub free→lip : (p c : ℕ) → Good g unlimited p c → c ≤ b → Good g (lip b) p c
+    pub free→lip : (p c : ℕ) → Good g unlimited p c → c ≤ b → Good g (lip b).table p c
     free→lip p c good le =
-        good_stable g (lip b) p c (with_table (Good g (lip b) p c) (λ w least outside. free_is_lip w least outside b enough p c good le))
+        good_stable g (lip b).table p c (with_table (Good g (lip b).table p c) (λ w least outside. free_is_lip w least outside b enough p c good le))
 
     pub free_drops : (p c : ℕ) → Good g unlimited p c → Good g unlimited p (drop_sum g)
     free_drops p c good =
         good_stable g unlimited p (drop_sum g)
         (with_table (Good g unlimited p (drop_sum g)) (λ w least outside. free_at_drops w least outside b enough p c good))
 
-    pub lip→free : (p c : ℕ) → Good g (lip b) p c → Good g unlimited p c
-    lip→free p c good i = simulate g wf (lip b) unlimited (λ c c'. c ≤ c') (lip_free b) i p c c (omega arith) (good i)
+    pub lip→free : (p c : ℕ) → Good g (lip b).table p c → Good g unlimited p c
+    lip→free p c good i = simulate g wf (lip b).table unlimited (λ c c'. c ≤ c') (lip_free b) i p c c (omega arith) (good i)
 
-    pub lip_level : (p c : ℕ) → Good g (lip b) p c → c ≤ b
-    lip_level = good_level g wf b (lip b) (up_to_above b (λ c a. capped b (unlimited c a)))
+    pub lip_level : (p c : ℕ) → Good g (lip b).table p c → c ≤ b
+    lip_level = good_level g wf (lip b) (up_to_above b (λ c a. capped b (unlimited c a)))
 
     same_least : (p : ℕ) (o : Option ℕ)
-        → (LeastGood g (lip b) p o → LeastGood g unlimited p o) × (LeastGood g unlimited p o → LeastGood g (lip b) p o)
+        → (LeastGood g (lip b).table p o → LeastGood g unlimited p o) × (LeastGood g unlimited p o → LeastGood g (lip b).table p o)
     same_least p None = (
       λ none c good. none (drop_sum g) (free→lip p (drop_sum g) (free_drops p c good) enough),
       λ none c good. none c (lip→free p c good),

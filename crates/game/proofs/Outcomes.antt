@@ -6,8 +6,8 @@ use Rattle.game.specs.Fill.{Choice, Holds, Good}
 use Rattle.game.specs.Play.{Plan, after, IsMove, Legal}
 use Rattle.game.specs.Published.{Infinite, Outcome, Wins}
 use Rattle.game.proofs.Base.{some_inj, Through}
-use Rattle.game.proofs.Force.{ours_theirs, sound_at, first_of, legal_after}
-use Rattle.game.proofs.Sustain.{good_step, follow, follow_after, follow_legal, pick, pick_through}
+use Rattle.game.proofs.Force.{ours_theirs, sound_at, first_of, legal_after, follow, follow_after}
+use Rattle.game.proofs.Sustain.{good_step, best, pick_through}
 
 -- the table pours k moves from level c, and the level after them is x
 abbrev pub Level : Table → ℕ → (ℕ → Edge) → ℕ → ℕ → Type 0
@@ -78,14 +78,14 @@ module _ (g : Game) (wf : WellFormed g) where
           let f = n.3 [] p (record { owner = Ours; moves = ms }) refl h refl in
           (n.2 [], f.0, (record { owner = Ours; moves = ms }, h, f.1), λ q h' own. refl)
       go Theirs ms h s =
-          let f = first_of ms s.some_move in
+          let f = first_of ms s.sound.some_move in
           (0, f.0, (record { owner = Theirs; moves = ms }, h, f.1), λ q h' own. absurd (ours_theirs (sym own ∙ ap (λ (r : Place). r.owner) (some_inj (sym h' ∙ h)))))
 
   advance : Node → Node
   advance n =
       let w = make n in (
         w.1.target,
-        (sound_at g wf n.0 w.2.0 w.2.1).targets w.0 w.1 w.2.2,
+        (sound_at g wf n.0 w.2.0 w.2.1).sound.targets w.0 w.1 w.2.2,
         after w.0 n.2,
         legal_after g Ours n.0 w.0 w.1 n.2 w.2 n.3,
       )
@@ -149,12 +149,12 @@ module _ (g : Game) (wf : WellFormed g) where
         go Ours ms h s ih =
             let f = legal [] p (record { owner = Ours; moves = ms }) refl h refl in
             let mv : IsMove g p (plan []) f.0 = (record { owner = Ours; moves = ms }, h, f.1) in
-            let lt' : f.0.target < g.places = s.targets (plan []) f.0 f.1 in
+            let lt' : f.0.target < g.places = s.sound.targets (plan []) f.0 f.1 in
             let w = won_step p c plan legal won (plan []) f.0 mv (λ q h' own. refl) lt' in
             (plan [], f.0, f.1, (w.0, w.1, ih f.0.target w.0 (after (plan []) plan) lt' (legal_after g Ours p (plan []) f.0 plan mv legal) w.2))
         go Theirs ms h s ih = λ m e k.
             let mv : IsMove g p m e = (record { owner = Theirs; moves = ms }, h, k) in
-            let lt' : e.target < g.places = s.targets m e k in
+            let lt' : e.target < g.places = s.sound.targets m e k in
             let w = won_step p c plan legal won m e mv (λ q h' own. absurd (ours_theirs (sym own ∙ ap (λ (r : Place). r.owner) (some_inj (sym h' ∙ h))))) lt' in
             (w.0, w.1, ih e.target w.0 (after m plan) lt' (legal_after g Ours p m e plan mv legal) w.2)
 
@@ -163,26 +163,21 @@ module _ (g : Game) (wf : WellFormed g) where
 
     -- ---- good wins
     module _ (dec : (p c : ℕ) → Dec (Good g t p c)) where
-      plan_for : ℕ → ℕ → Plan
-      plan_for = follow g t (pick g wf t (Good g t) dec (good_step g t dec))
+      abbrev plan_for : ℕ → ℕ → Plan
+      plan_for = follow g t (best g wf t (Good g t) dec (good_step g t dec)).pick
 
       stays : (k p c : ℕ) → Good g t p c → (γ : Infinite g p) → Outcome g p (plan_for p c) γ → (x : ℕ) × Level t c γ.move k x
-      unfolding plan_for one_less
+      unfolding one_less
       stays zero p c good γ out = (c, refl)
       stays (suc k) p c good γ out =
           let mv = γ.made 0 in
           let at : g.at p ≡ Some mv.0 = ap g.at (sym γ.starts) ∙ mv.1 in
           let th : Through t (Good g t) c (γ.move 0) =
           pick_through g wf t (Good g t) dec (good_step g t dec) p c mv.0 good at (γ.number 0) (γ.move 0) mv.2 (λ own. out 0 mv.0 mv.1 own) in
-          let same = follow_after g t (pick g wf t (Good g t) dec (good_step g t dec)) p c (γ.number 0) th.0 (γ.move 0) (mv.0, at, mv.2) th.1 in
+          let same = follow_after g t (best g wf t (Good g t) dec (good_step g t dec)).pick p c (γ.number 0) th.0 (γ.move 0) (mv.0, at, mv.2) th.1 in
           let rest = stays k (γ.move 0).target th.0 th.2 (one_less g p γ)
           (subst (λ (plan : Plan). Outcome g (γ.move 0).target plan (one_less g p γ)) same (one_less_outcome g p γ (plan_for p c) out)) in
           (rest.0, (th.0, th.1, rest.1))
 
       pub good_wins : (p c : ℕ) → Good g t p c → Wins g p (Stays t c)
-      unfolding plan_for
-      good_wins p c good = (
-        plan_for p c,
-        λ run p' q leads h own. follow_legal g wf t (Good g t) dec (good_step g t dec) run p c p' q leads h,
-        λ γ out k. stays k p c good γ out,
-      )
+      good_wins p c good = (plan_for p c, (best g wf t (Good g t) dec (good_step g t dec)).legal Ours (p, c), λ γ out k. stays k p c good γ out)

@@ -53,22 +53,22 @@ unlimited_inv c a d h = natural_inv (pos c +ℤ a) d h
 pub unlimited_make : (c : ℕ) (a : ℤ) (d : ℕ) → pos c +ℤ a ≡ pos d → unlimited c a ≡ Some d
 unlimited_make c a d h = ap natural h
 
-pub lip_inv : (b c : ℕ) (a : ℤ) (d : ℕ) → lip b c a ≡ Some d → (c ≤ b) × (n : ℕ) × (pos c +ℤ a ≡ pos n) × (d ≡ min n b)
+pub lip_inv : (b c : ℕ) (a : ℤ) (d : ℕ) → (lip b).table c a ≡ Some d → (c ≤ b) × (n : ℕ) × (pos c +ℤ a ≡ pos n) × (d ≡ min n b)
 lip_inv b c a d h =
     let w = up_to_inv b (λ c a. capped b (unlimited c a)) c a d h in
     let v = capped_inv b (unlimited c a) d w.2 in
     (w.0, v.0, unlimited_inv c a v.0 v.1, v.2)
 
-pub lip_make : (b c : ℕ) (a : ℤ) (n : ℕ) → c ≤ b → InLimits a → pos c +ℤ a ≡ pos n → lip b c a ≡ Some (min n b)
+pub lip_make : (b c : ℕ) (a : ℤ) (n : ℕ) → c ≤ b → InLimits a → pos c +ℤ a ≡ pos n → (lip b).table c a ≡ Some (min n b)
 lip_make b c a n le lim h = up_to_make b (λ c a. capped b (unlimited c a)) c a le lim ∙ ap (capped b) (unlimited_make c a n h)
 
-pub closed_inv : (b c : ℕ) (a : ℤ) (d : ℕ) → closed b c a ≡ Some d → (c ≤ b) × (pos c +ℤ a ≡ pos d) × (d ≤ b)
+pub closed_inv : (b c : ℕ) (a : ℤ) (d : ℕ) → (closed b).table c a ≡ Some d → (c ≤ b) × (pos c +ℤ a ≡ pos d) × (d ≤ b)
 closed_inv b c a d h =
     let w = up_to_inv b (λ c a. refused_past b (unlimited c a)) c a d h in
     let v = refused_past_inv b (unlimited c a) d w.2 in
     (w.0, unlimited_inv c a d v.0, v.1)
 
-pub closed_make : (b c : ℕ) (a : ℤ) (d : ℕ) → c ≤ b → InLimits a → pos c +ℤ a ≡ pos d → d ≤ b → closed b c a ≡ Some d
+pub closed_make : (b c : ℕ) (a : ℤ) (d : ℕ) → c ≤ b → InLimits a → pos c +ℤ a ≡ pos d → d ≤ b → (closed b).table c a ≡ Some d
 closed_make b c a d le lim h k =
     up_to_make b (λ c a. refused_past b (unlimited c a)) c a le lim
     ∙ (ap (refused_past b) (unlimited_make c a d h) ∙ cond-true (leb d b) (Some d) None (le-leb d b k))

@@ -1,8 +1,8 @@
--- Each row made from the one before by need, and the need of a drawn vessel.
-use Rattle.std.proofs.Common.{ℕ, zero, suc, ◌+◌, min, max, List, [], ◌∷◌, ℤ, Some, None, Option}
+-- Each row made from the one before by need.
+use Rattle.std.proofs.Common.{ℕ, zero, suc, min, max, List, [], ◌∷◌, ℤ, Some, None, Option}
 use Rattle.game.specs.Game.{Owner, Ours, Theirs, Edge, Place, Game}
 use Rattle.game.specs.Fill.{Row}
-use Rattle.game.specs.Rows.{Need, need_lip}
+use Rattle.game.specs.Rows.{Need}
 
 -- the lesser of two entries, where None is above every number
 abbrev pub lesser : Option ℕ → Option ℕ → Option ℕ
@@ -45,7 +45,3 @@ next_row g need row p = best_at need row (g.at p)
 abbrev pub row_of : Game → Need → ℕ → Row
 row_of g need zero = λ p. Some 0
 row_of g need (suc j) = next_row g need (row_of g need j)
-
--- the need of the drawn vessel: the lip's, for the draw as well
-abbrev pub need_drawn : ℕ → ℕ → Need
-need_drawn top draw wanted a = need_lip top (wanted + draw) a

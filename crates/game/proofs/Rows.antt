@@ -1,18 +1,18 @@
 -- Rows: each from the one before, repeated ones, and how soon one repeats.
-use Rattle.std.proofs.Common.{◌≡◌, ℕ, zero, suc, ◌+◌, ◌*◌, ◌<◌, ◌≤◌, min, max, ◌⊎◌, List, [], ◌∷◌, ℤ, Some, None, Option, sym, refl, ap, ◌∙◌, subst, inl, inr, arith}
+use Rattle.std.proofs.Common.{◌≡◌, ℕ, zero, suc, ◌<◌, ◌≤◌, min, max, ◌⊎◌, List, [], ◌∷◌, ℤ, Some, None, Option, sym, refl, ap, ◌∙◌, subst, inl, inr, arith}
 use native.Mathlib.Decide.{dec_lt, dec_le}
 use Rattle.std.specs.List.{slice_get}
-use Rattle.game.specs.Game.{Owner, Ours, Theirs, Edge, Place, Game, WellFormed, InLimits, sum_below}
-use Rattle.game.specs.Vessel.{Table, Keeps}
-use Rattle.game.specs.Fill.{Choice, Step, Holds, Good, IsMark, IsLeast, Row, IsRow, LeastGood}
-use Rattle.game.specs.Rows.{Reaches, IsNeed, Need, Graded}
+use Rattle.game.specs.Game.{Owner, Ours, Theirs, Edge, Place, Game, WellFormed, InLimits}
+use Rattle.game.specs.Vessel.{Table, Hopper, Keeps}
+use Rattle.game.specs.Fill.{Choice, Step, Holds, Good, IsMark, IsLeast, AtMostOne, Row, IsRow, LeastGood}
+use Rattle.game.specs.Forced.{Forces}
+use Rattle.game.specs.Rows.{Reaches, Parts, Need, Graded}
 use Rattle.game.proofs.RowMaking.{lesser, greater, best, need_if, serves, best_at, next_row, row_of}
 use Rattle.game.proofs.Theorems.{NeedMakesRows, RepeatedRowIsLeastGood, SomeRowRepeats, Unique}
 use Rattle.game.proofs.Base.{none_some, some_inj, stable, SomeMove, EachMove, each_cons, Through, choice_map, good_by, holds_pred}
 use Rattle.game.proofs.Force.{sound_at}
 use Rattle.game.proofs.Lip.{simulate, step_through, least_at_most, least_is}
-use Rattle.game.proofs.Sums.{sum_lt, sum_const}
-use Rattle.game.proofs.Bounded.{search_below, stops_within}
+use Rattle.game.proofs.Stages.{last_stage}
 use Rattle.game.proofs.Levels.{good_level}
 
 -- ---- numbers with never
@@ -100,179 +100,116 @@ is_least top P (Some n) small out back =
     (back n (small n refl) (n, refl, omega arith), λ d lt pd. let a = out d pd in omega (arith, some_inj a.1, a.2))
 
 -- ---- graded tables
-module _ (g : Game) (wf : WellFormed g) (top : ℕ) (t : Table) (keeps : Keeps top t) (need : Need) (graded : Graded top t need) where
-  need_least : (wanted c : ℕ) (a : ℤ) (o : Option ℕ) → IsNeed top t wanted a o → Reaches t wanted a c → AtMost o c
+module _ (g : Game) (wf : WellFormed g) (v : Hopper) (keeps : Keeps v) (need : Need) (graded : Graded v need) where
+  need_least : (wanted c : ℕ) (a : ℤ) (o : Option ℕ) → Parts v.top (Reaches v.table wanted a) o → Reaches v.table wanted a c → AtMost o c
   need_least wanted c a None is r = absurd (is c r)
   need_least wanted c a (Some n) is r = (n, refl, stable (dec_le n c) (λ not. is.2 c (omega arith) r))
 
-  need_does : (wanted c : ℕ) (a : ℤ) (o : Option ℕ) → IsNeed top t wanted a o → AtMost o c → c ≤ top → Reaches t wanted a c
+  need_does : (wanted c : ℕ) (a : ℤ) (o : Option ℕ) → Parts v.top (Reaches v.table wanted a) o → AtMost o c → c ≤ v.top → Reaches v.table wanted a c
   need_does wanted c a None is m le = absurd (none_some m.1)
   need_does wanted c a (Some n) is m le = is.1 c (omega (arith, some_inj m.1, m.2)) le
 
-  higher : (c c' : ℕ) (a : ℤ) (d : ℕ) → (c ≤ c') × (c' ≤ top) → InLimits a → t c a ≡ Some d → (d' : ℕ) × (t c' a ≡ Some d') × ((d ≤ d') × (d' ≤ top))
+  higher : (c c' : ℕ) (a : ℤ) (d : ℕ) → (c ≤ c') × (c' ≤ v.top) → InLimits a → v.table c a ≡ Some d → (d' : ℕ) × (v.table c' a ≡ Some d') × ((d ≤ d') × (d' ≤ v.top))
   higher c c' a d r lim h =
       let m = need_least d c a (need d a) (graded d a) (d, h, omega arith) in
       let w = need_does d c' a (need d a) (graded d a) (m.0, m.1, omega (arith, m.2, r.0)) r.1 in
       (w.0, w.1, (w.2, keeps.within c' a w.0 w.1))
 
-  pub holds_up : (i p c c' : ℕ) → (c ≤ c') × (c' ≤ top) → Holds g t i p c → Holds g t i p c'
-  holds_up = simulate g wf t t (λ c c'. (c ≤ c') × (c' ≤ top)) higher
+  pub holds_up : (i p c c' : ℕ) → (c ≤ c') × (c' ≤ v.top) → Holds g v.table i p c → Holds g v.table i p c'
+  holds_up = simulate g wf v.table v.table (λ c c'. (c ≤ c') × (c' ≤ v.top)) higher
 
-  serve_out : (j : ℕ) (row : Row) → IsRow g t top j row → (c : ℕ) (e : Edge) → e.target < g.places → Through t (Holds g t j) c e → AtMost (serves need row e) c
+  serve_out : (j : ℕ) (row : Row) → IsRow g v j row → (c : ℕ) (e : Edge) → e.target < g.places → Through v.table (Holds g v.table j) c e → AtMost (serves need row e) c
   serve_out j row is c e lt th =
-      let l = least_at_most (λ c. (c ≤ top) × Holds g t j e.target c) (row e.target) (is e.target lt) th.0 (keeps.within c e.amount th.0 th.1, th.2) in
+      let l = least_at_most (λ c. (c ≤ v.top) × Holds g v.table j e.target c) (row e.target) (is e.target lt) th.0 (keeps.within c e.amount th.0 th.1, th.2) in
       subst (λ (o : Option ℕ). AtMost (need_if need e.amount o) c) (sym l.1)
       (need_least l.0 c e.amount (need l.0 e.amount) (graded l.0 e.amount) (th.0, th.1, l.2))
 
-  serve_in : (j : ℕ) (row : Row) → IsRow g t top j row → (c : ℕ) (e : Edge) → e.target < g.places → c ≤ top → AtMost (serves need row e) c → Through t (Holds g t j) c e
+  serve_in : (j : ℕ) (row : Row) → IsRow g v j row → (c : ℕ) (e : Edge) → e.target < g.places → c ≤ v.top → AtMost (serves need row e) c → Through v.table (Holds g v.table j) c e
   serve_in j row is c e lt le m = go (row e.target) refl m
     where
-      go : (o : Option ℕ) → row e.target ≡ o → AtMost (need_if need e.amount o) c → Through t (Holds g t j) c e
+      go : (o : Option ℕ) → row e.target ≡ o → AtMost (need_if need e.amount o) c → Through v.table (Holds g v.table j) c e
       go None h m = absurd (none_some m.1)
       go (Some y) h m =
           let r = need_does y c e.amount (need y e.amount) (graded y e.amount) m le in
-          let l = least_is (λ c. (c ≤ top) × Holds g t j e.target c) (row e.target) y h (is e.target lt) in
+          let l = least_is (λ c. (c ≤ v.top) × Holds g v.table j e.target c) (row e.target) y h (is e.target lt) in
           (r.0, r.1, holds_up j e.target y r.0 (r.2, keeps.within c e.amount r.0 r.1) l.0.1)
 
-  serve_top : (row : Row) (e : Edge) (n : ℕ) → serves need row e ≡ Some n → n ≤ top
+  serve_top : (row : Row) (e : Edge) (n : ℕ) → serves need row e ≡ Some n → n ≤ v.top
   serve_top row e n h = go (row e.target) h
     where
-      at : (o : Option ℕ) (wanted : ℕ) → IsNeed top t wanted e.amount o → o ≡ Some n → n ≤ top
+      at : (o : Option ℕ) (wanted : ℕ) → Parts v.top (Reaches v.table wanted e.amount) o → o ≡ Some n → n ≤ v.top
       at None wanted is k = absurd (none_some k)
-      at (Some m) wanted is k = subst (λ (z : ℕ). z ≤ top) (some_inj k) is.0
+      at (Some m) wanted is k = subst (λ (z : ℕ). z ≤ v.top) (some_inj k) is.0
 
-      go : (o : Option ℕ) → need_if need e.amount o ≡ Some n → n ≤ top
+      go : (o : Option ℕ) → need_if need e.amount o ≡ Some n → n ≤ v.top
       go None k = absurd (none_some k)
       go (Some wanted) k = at (need wanted e.amount) wanted (graded wanted e.amount) k
 
-  next_row_lem : (j : ℕ) (row : Row) → IsRow g t top j row → IsRow g t top (suc j) (next_row g need row)
+  next_row_lem : (j : ℕ) (row : Row) → IsRow g v j row → IsRow g v (suc j) (next_row g need row)
   next_row_lem j row is p lt =
       let w = wf.here p lt in
       let q : Place = w.0 in
-      subst (λ (o : Option Place). IsLeast (λ c. (c ≤ top) × Holds g t (suc j) p c) (best_at need row o)) (sym w.1)
-      (is_least top (λ c. (c ≤ top) × Holds g t (suc j) p c) (best q.owner (serves need row) q.moves)
-      (λ n h. best_top top q.owner (serves need row) (serve_top row) q.moves n h)
+      subst (λ (o : Option Place). IsLeast (λ c. (c ≤ v.top) × Holds g v.table (suc j) p c) (best_at need row o)) (sym w.1)
+      (is_least v.top (λ c. (c ≤ v.top) × Holds g v.table (suc j) p c) (best q.owner (serves need row) q.moves)
+      (λ n h. best_top v.top q.owner (serves need row) (serve_top row) q.moves n h)
       (λ c pc.
       best_in q.owner (serves need row) q.moves c
-      (choice_map q.owner q.moves (Through t (Holds g t j) c) (λ e. AtMost (serves need row e) c)
-      (λ m e mv th. serve_out j row is c e (w.2.targets m e mv) th)
-      (subst (λ (r : Place). Choice r.owner r.moves (Through t (Holds g t j) c)) (some_inj (sym pc.1.1 ∙ w.1)) pc.1.2)))
+      (choice_map q.owner q.moves (Through v.table (Holds g v.table j) c) (λ e. AtMost (serves need row e) c)
+      (λ m e mv th. serve_out j row is c e (w.2.sound.targets m e mv) th)
+      (subst (λ (r : Place). Choice r.owner r.moves (Through v.table (Holds g v.table j) c)) (some_inj (sym pc.1.1 ∙ w.1)) pc.1.2)))
       (λ c le m. (
         le,
         (
           q,
           w.1,
-          choice_map q.owner q.moves (λ e. AtMost (serves need row e) c) (Through t (Holds g t j) c)
-              (λ k e mv a. serve_in j row is c e (w.2.targets k e mv) le a)
+          choice_map q.owner q.moves (λ e. AtMost (serves need row e) c) (Through v.table (Holds g v.table j) c)
+              (λ k e mv a. serve_in j row is c e (w.2.sound.targets k e mv) le a)
               (best_out q.owner (serves need row) q.moves c m),
         ),
       )))
 
-  all_rows : (j : ℕ) → IsRow g t top j (row_of g need j)
+  all_rows : (j : ℕ) → IsRow g v j (row_of g need j)
   all_rows zero p lt = ((omega arith, tt), λ d less pd. omega arith)
   all_rows (suc j) p lt = next_row_lem j (row_of g need j) (all_rows j) p lt
 
   -- ---- a row that repeats
-  module _ (j : ℕ) (row : Row) (here : IsRow g t top j row) (there : IsRow g t top (suc j) row) where
+  module _ (j : ℕ) (row : Row) (here : IsRow g v j row) (there : IsRow g v (suc j) row) where
     Served : ℕ → ℕ → Type 0
-    Served p c = (p < g.places) × AtMost (row p) c × (c ≤ top)
+    Served p c = (p < g.places) × AtMost (row p) c × (c ≤ v.top)
 
-    served_step : (p c : ℕ) → Served p c → Step g t Served p c
+    served_step : (p c : ℕ) → Served p c → Step g v.table Served p c
     unfolding Served
     served_step p c s =
         let x : ℕ = s.1.0 in
-        let l = least_is (λ c. (c ≤ top) × Holds g t (suc j) p c) (row p) x s.1.1 (there p s.0) in
-        step_through g wf t t (Holds g t j) Served p c c
+        let l = least_is (λ c. (c ≤ v.top) × Holds g v.table (suc j) p c) (row p) x s.1.1 (there p s.0) in
+        step_through g wf v.table v.table (Holds g v.table j) Served p c c
         (λ q at m e mv th.
-        let d≤ : th.0 ≤ top = keeps.within c e.amount th.0 th.1 in
-        let lt : e.target < g.places = (sound_at g wf p q at).targets m e mv in
-        (th.0, th.1, (lt, least_at_most (λ c. (c ≤ top) × Holds g t j e.target c) (row e.target) (here e.target lt) th.0 (d≤, th.2), d≤)))
+        let d≤ : th.0 ≤ v.top = keeps.within c e.amount th.0 th.1 in
+        let lt : e.target < g.places = (sound_at g wf p q at).sound.targets m e mv in
+        (th.0, th.1, (lt, least_at_most (λ c. (c ≤ v.top) × Holds g v.table j e.target c) (row e.target) (here e.target lt) th.0 (d≤, th.2), d≤)))
         (holds_up (suc j) p x c (s.1.2, s.2) l.0.1)
 
-    row_good : (p c : ℕ) → p < g.places → AtMost (row p) c → c ≤ top → Good g t p c
+    row_good : (p c : ℕ) → p < g.places → AtMost (row p) c → c ≤ v.top → Good g v.table p c
     unfolding Served
-    row_good p c lt m le i = good_by g t Served served_step i p c (lt, m, le)
+    row_good p c lt m le i = good_by g v.table Served served_step i p c (lt, m, le)
 
-    row_top : (p : ℕ) → p < g.places → (n : ℕ) → row p ≡ Some n → n ≤ top
-    row_top p lt n h = (least_is (λ c. (c ≤ top) × Holds g t j p c) (row p) n h (here p lt)).0.0
+    row_top : (p : ℕ) → p < g.places → (n : ℕ) → row p ≡ Some n → n ≤ v.top
+    row_top p lt n h = (least_is (λ c. (c ≤ v.top) × Holds g v.table j p c) (row p) n h (here p lt)).0.0
 
-    repeated : (p : ℕ) → p < g.places → LeastGood g t p (row p)
+    repeated : (p : ℕ) → p < g.places → LeastGood g v.table p (row p)
     repeated p lt =
-        is_least top (Good g t p) (row p) (row_top p lt)
-        (λ c good. least_at_most (λ c. (c ≤ top) × Holds g t j p c) (row p) (here p lt) c (good_level g wf top t keeps.above p c good, good j))
+        is_least v.top (Good g v.table p) (row p) (row_top p lt)
+        (λ c good. least_at_most (λ c. (c ≤ v.top) × Holds g v.table j p c) (row p) (here p lt) c (good_level g wf v keeps.above p c good, good j))
         (λ c le m. row_good p c lt m le)
 
 pub need_makes_rows : NeedMakesRows
-need_makes_rows g wf top t keeps need graded j = all_rows g wf top t keeps need graded j
+need_makes_rows g wf v keeps need graded j = all_rows g wf v keeps need graded j
 
 pub repeated_row_is_least_good : RepeatedRowIsLeastGood
-repeated_row_is_least_good g wf top t keeps need graded j row here there p lt = repeated g wf top t keeps need graded j row here there p lt
-
--- ---- how soon a row repeats
-module _ (g : Game) (top : ℕ) (t : Table) (rows : ℕ → Row) (is : (j : ℕ) → IsRow g t top j (rows j)) where
-  size : Option ℕ → ℕ
-  size None = suc top
-  size (Some c) = c
-
-  Rises : Option ℕ → Option ℕ → Type 0
-  Rises o o' = (o ≡ o') ⊎ (size o < size o')
-
-  rises : (P P' : ℕ → Type 0) (o o' : Option ℕ) → ((c : ℕ) → P c → c ≤ top) → ((c : ℕ) → P' c → P c) → IsLeast P o → IsLeast P' o' → Rises o o'
-  unfolding Rises size
-  rises P P' None None small sub l l' = inl refl
-  rises P P' None (Some c') small sub l l' = absurd (l c' (sub c' l'.0))
-  rises P P' (Some c) None small sub l l' = inr (omega (arith, small c l.0))
-  rises P P' (Some c) (Some c') small sub l l' = go (dec_lt c c') (dec_lt c' c)
-    where
-      go : Dec (c < c') → Dec (c' < c) → (Some c ≡ Some c') ⊎ (c < c')
-      go (yes lt) d = inr lt
-      go (no not) (yes lt) = absurd (l.1 c' lt (sub c' l'.0))
-      go (no not) (no not') = inl (ap Some (omega arith))
-
-  rise : (j p : ℕ) → p < g.places → Rises (rows j p) (rows (suc j) p)
-  rise j p lt =
-      rises (λ c. (c ≤ top) × Holds g t j p c) (λ c. (c ≤ top) × Holds g t (suc j) p c) (rows j p) (rows (suc j) p)
-      (λ c pc. pc.0) (λ c pc. (pc.0, holds_pred g t j p c pc.1)) (is j p lt) (is (suc j) p lt)
-
-  rise_le : (o o' : Option ℕ) → Rises o o' → size o ≤ size o'
-  unfolding Rises
-  rise_le o o' (inl e) = omega (arith, ap size e)
-  rise_le o o' (inr lt) = omega arith
-
-  size_top : (j p : ℕ) → p < g.places → size (rows j p) ≤ suc top
-  unfolding size
-  size_top j p lt = go (rows j p) (is j p lt)
-    where
-      go : (o : Option ℕ) → IsLeast (λ c. (c ≤ top) × Holds g t j p c) o → size o ≤ suc top
-      go None l = omega arith
-      go (Some c) l = omega (arith, l.0.0)
-
-  Same : ℕ → Type 0
-  Same j = (p : ℕ) → p < g.places → rows j p ≡ rows (suc j) p
-
-  total : ℕ → ℕ
-  total j = sum_below g.places (λ p. size (rows j p))
-
-  look : (j : ℕ) → Same j ⊎ (total j < total (suc j))
-  unfolding Same total Rises
-  look j = go (search_below g.places (λ p. rows j p ≡ rows (suc j) p) (λ p. size (rows j p) < size (rows (suc j) p)) (rise j))
-    where
-      go : ((p : ℕ) → p < g.places → rows j p ≡ rows (suc j) p) ⊎ ((p : ℕ) × (p < g.places) × (size (rows j p) < size (rows (suc j) p)))
-          → ((p : ℕ) → p < g.places → rows j p ≡ rows (suc j) p) ⊎ (sum_below g.places (λ p. size (rows j p)) < sum_below g.places (λ p. size (rows (suc j) p)))
-      go (inl s) = inl s
-      go (inr w) = inr (sum_lt g.places (λ p. size (rows j p)) (λ p. size (rows (suc j) p)) (λ y lt. rise_le (rows j y) (rows (suc j) y) (rise j y lt)) w.0 w.1 w.2)
-
-  repeats : (j : ℕ) × (j ≤ g.places * (top + 1)) × ((p : ℕ) → p < g.places → rows j p ≡ rows (suc j) p)
-  unfolding Same total
-  repeats =
-      stops_within Same total look (g.places * (top + 1))
-      (λ j. sum_const g.places (top + 1) (λ p. size (rows j p)) (λ y lt. omega (arith, size_top j y lt)))
-
-pub some_row_repeats : SomeRowRepeats
-some_row_repeats g top t rows is = repeats g top t rows is
+repeated_row_is_least_good g wf v keeps need graded j row here there p lt = repeated g wf v keeps need graded j row here there p lt
 
 -- ---- one of each
-least_unique : (P : ℕ → Type 0) (o o' : Option ℕ) → IsLeast P o → IsLeast P o' → o ≡ o'
+least_unique : (P : ℕ → Type 0) → AtMostOne (IsLeast P)
 least_unique P None None l l' = refl
 least_unique P None (Some c') l l' = absurd (l c' l'.0)
 least_unique P (Some c) None l l' = absurd (l' c l.0)
@@ -283,6 +220,21 @@ least_unique P (Some c) (Some c') l l' = go (dec_lt c c') (dec_lt c' c)
     go (no n) (yes lt) = absurd (l.1 c' lt l'.0)
     go (no n) (no m) = ap Some (omega arith)
 
+least_map : (P Q : ℕ → Type 0) → ((c : ℕ) → P c → Q c) → ((c : ℕ) → Q c → P c) → (o : Option ℕ) → IsLeast P o → IsLeast Q o
+least_map P Q f b None l = λ c q. l c (b c q)
+least_map P Q f b (Some c) l = (f c l.0, λ d lt q. l.1 d lt (b d q))
+
+pub some_row_repeats : SomeRowRepeats
+some_row_repeats g v rows is =
+    let w = last_stage g v in
+    let P : ℕ → ℕ → ℕ → Type 0 = λ j p c. (c ≤ v.top) × Holds g v.table j p c in (
+      w.0,
+      w.1,
+      λ p lt.
+          least_unique (P w.0 p) (rows w.0 p) (rows (suc w.0) p) (is w.0 p lt)
+          (least_map (P (suc w.0) p) (P w.0 p) (λ c h. (h.0, holds_pred g v.table w.0 p c h.1)) (λ c h. (h.0, w.2 p lt c (omega (arith, h.0)) h.1)) (rows (suc w.0) p) (is (suc w.0) p lt)),
+    )
+
 mark_least : (g : Game) (t : Table) (p c : ℕ) (o : Option ℕ) → IsMark g t p c o → IsLeast (λ i. ¬ Holds g t i p c) o
 mark_least g t p c None good = λ i n. n (good i)
 mark_least g t p c (Some n) m = (m.0, λ i lt k. k (m.1 i lt))
@@ -290,7 +242,7 @@ mark_least g t p c (Some n) m = (m.0, λ i lt k. k (m.1 i lt))
 pub unique : Unique
 unique = record {
   mark = λ g t p c o o' m m'. least_unique (λ i. ¬ Holds g t i p c) o o' (mark_least g t p c o m) (mark_least g t p c o' m');
-  forced = λ g target p o o' m m'. least_unique _ o o' m m';
-  least = λ g t p o o' m m'. least_unique (Good g t p) o o' m m';
-  row = λ g t top j r s m m' p lt. least_unique (λ c. (c ≤ top) × Holds g t j p c) (r p) (s p) (m p lt) (m' p lt);
+  forced = λ g target p. least_unique (λ i. Forces g target i p);
+  least = λ g t p. least_unique (Good g t p);
+  row = λ g v j r s m m' p lt. least_unique (λ c. (c ≤ v.top) × Holds g v.table j p c) (r p) (s p) (m p lt) (m' p lt);
 }

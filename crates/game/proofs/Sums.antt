@@ -1,9 +1,22 @@
 -- Sums over places, the cover lemma, and choices under double negation.
-use Rattle.std.proofs.Common.{◌≡◌, ℕ, zero, suc, ◌+◌, ◌-◌, ◌*◌, ◌<◌, ◌≤◌, min, Some, None, Option, subst, arith}
+use Rattle.std.proofs.Common.{◌≡◌, ℕ, zero, suc, ◌+◌, ◌-◌, ◌*◌, ◌<◌, ◌≤◌, min, map, Some, None, Option, refl, ap, ◌∙◌, subst, arith}
+use Rattle.std.specs.List.{sum, range_with_len}
+use Rattle.std.proofs.lemmas.List.FromFn.{sum_by-map-range_with_len_more}
 use native.Mathlib.Decide.{dec_lt, dec_le}
-use Rattle.game.specs.Game.{sum_below}
 use Rattle.game.specs.Fill.{IsLeast}
 use Rattle.game.proofs.Base.{stable}
+
+-- f 0, f 1 and so on, n of them, added up one by one
+abbrev pub sum_below : ℕ → (ℕ → ℕ) → ℕ
+sum_below zero f = 0
+sum_below (suc n) f = sum_below n f + f n
+
+pub sum_is : (n : ℕ) (f : ℕ → ℕ) → sum (map f (range_with_len 0 n)) ≡ sum_below n f
+sum_is zero f = refl
+sum_is (suc n) f =
+    let next : n + 1 ≡ suc n = omega arith in
+    let one_more : sum (map f (range_with_len 0 (n + 1))) ≡ sum (map f (range_with_len 0 n)) + f n = sum_by-map-range_with_len_more (λ x. x) f 0 n n (omega arith) in
+    subst (λ (k : ℕ). sum (map f (range_with_len 0 k)) ≡ sum (map f (range_with_len 0 n)) + f n) next one_more ∙ ap (λ (k : ℕ). k + f n) (sum_is n f)
 
 pub sum_le : (n : ℕ) (f h : ℕ → ℕ) → ((y : ℕ) → y < n → f y ≤ h y) → sum_below n f ≤ sum_below n h
 sum_le zero f h le = omega arith

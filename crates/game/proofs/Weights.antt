@@ -32,7 +32,7 @@ under c b le = omega (arith, ints, clamps)
 lip_one : (b c n : ℕ) (a : ℤ) → c ≤ b → pos c +ℤ a ≡ pos n → int_min (int_min (pos c) (pos b) +ℤ a) (pos b) ≡ pos (min n b)
 lip_one b c n a le h = min_of (int_min (pos c) (pos b) +ℤ a) n b (ap (λ (z : ℤ). z +ℤ a) (under c b le) ∙ h)
 
-lip_stays : (b : ℕ) (k c : ℕ) (es : ℕ → Edge) → c ≤ b → AllIn es → ((j : ℕ) → pos 0 ≤ℤ weakly (pos b) (pos c) es j) → (x : ℕ) × Level (lip b) c es k x
+lip_stays : (b : ℕ) (k c : ℕ) (es : ℕ → Edge) → c ≤ b → AllIn es → ((j : ℕ) → pos 0 ≤ℤ weakly (pos b) (pos c) es j) → (x : ℕ) × Level (lip b).table c es k x
 lip_stays b zero c es le lim h = (c, refl)
 lip_stays b (suc k) c es le lim h =
     let z : ℤ = int_min (pos c) (pos b) +ℤ (es 0).amount in
@@ -44,7 +44,7 @@ lip_stays b (suc k) c es le lim h =
     let rest = lip_stays b k d (tail es) (omega arith) (λ j. lim (suc j)) (λ j. subst (λ (w : ℤ). pos 0 ≤ℤ w) (weakly_tail b c d es one (omega arith) j) (h (suc j))) in
     (rest.0, (d, lip_make b c (es 0).amount n.0 le (lim 0) n.1, rest.1))
 
-lip_weakly : (b : ℕ) (k c : ℕ) (es : ℕ → Edge) → c ≤ b → (x : ℕ) → Level (lip b) c es k x → pos 0 ≤ℤ weakly (pos b) (pos c) es k
+lip_weakly : (b : ℕ) (k c : ℕ) (es : ℕ → Edge) → c ≤ b → (x : ℕ) → Level (lip b).table c es k x → pos 0 ≤ℤ weakly (pos b) (pos c) es k
 lip_weakly b zero c es le x lv = omega (arith, ints, clamps)
 lip_weakly b (suc k) c es le x lv =
     let w = lip_inv b c (es 0).amount lv.0 lv.1 in
@@ -58,7 +58,7 @@ plainly_tail c d es h zero = h
 plainly_tail c d es h (suc k) = ap (λ (z : ℤ). z +ℤ (es (suc k)).amount) (plainly_tail c d es h k)
 
 closed_stays : (b : ℕ) (k c : ℕ) (es : ℕ → Edge) → c ≤ b → AllIn es
-    → ((j : ℕ) → (pos 0 ≤ℤ plainly (pos c) es j) × (plainly (pos c) es j ≤ℤ pos b)) → (x : ℕ) × Level (closed b) c es k x
+    → ((j : ℕ) → (pos 0 ≤ℤ plainly (pos c) es j) × (plainly (pos c) es j ≤ℤ pos b)) → (x : ℕ) × Level (closed b).table c es k x
 closed_stays b zero c es le lim h = (c, refl)
 closed_stays b (suc k) c es le lim h =
     let n = natural_make (pos c +ℤ (es 0).amount) (h 1).0 in
@@ -69,7 +69,7 @@ closed_stays b (suc k) c es le lim h =
     (λ j. subst (λ (w : ℤ). (pos 0 ≤ℤ w) × (w ≤ℤ pos b)) (plainly_tail c d es n.1 j) (h (suc j))) in
     (rest.0, (d, closed_make b c (es 0).amount d le (lim 0) n.1 le', rest.1))
 
-closed_plainly : (b : ℕ) (k c : ℕ) (es : ℕ → Edge) → c ≤ b → (x : ℕ) → Level (closed b) c es k x
+closed_plainly : (b : ℕ) (k c : ℕ) (es : ℕ → Edge) → c ≤ b → (x : ℕ) → Level (closed b).table c es k x
     → (pos 0 ≤ℤ plainly (pos c) es k) × (plainly (pos c) es k ≤ℤ pos b)
 closed_plainly b zero c es le x lv = (omega (arith, ints), omega (arith, ints))
 closed_plainly b (suc k) c es le x lv =
@@ -101,24 +101,24 @@ wins_map g p V W f w = (w.0, w.1, λ γ out. f γ (w.2 γ out))
 pub lip_is_lower_weak_upper_bound : LipIsLowerWeakUpperBound
 lip_is_lower_weak_upper_bound g wf b p c lt le = (
   λ good.
-      wins_map g p (Stays (lip b) c) (λ es. (k : ℕ) → pos 0 ≤ℤ weakly (pos b) (pos c) es k)
+      wins_map g p (Stays (lip b).table c) (λ es. (k : ℕ) → pos 0 ≤ℤ weakly (pos b) (pos c) es k)
       (λ γ s k. lip_weakly b k c γ.move le (s k).0 (s k).1)
-      (good_wins g wf (lip b) (lip_dec g wf b) p c good),
+      (good_wins g wf (lip b).table (lip_dec g wf b) p c good),
   λ w.
-      wins_good g wf (lip b) p c lt
-      (wins_map g p (λ es. (k : ℕ) → pos 0 ≤ℤ weakly (pos b) (pos c) es k) (Stays (lip b) c)
+      wins_good g wf (lip b).table p c lt
+      (wins_map g p (λ es. (k : ℕ) → pos 0 ≤ℤ weakly (pos b) (pos c) es k) (Stays (lip b).table c)
       (λ γ h k. lip_stays b k c γ.move le (all_in g wf p γ) h) w),
 )
 
 pub closed_is_interval_bound : ClosedIsIntervalBound
 closed_is_interval_bound g wf b p c lt le = (
   λ good.
-      wins_map g p (Stays (closed b) c) (λ es. (k : ℕ) → (pos 0 ≤ℤ plainly (pos c) es k) × (plainly (pos c) es k ≤ℤ pos b))
+      wins_map g p (Stays (closed b).table c) (λ es. (k : ℕ) → (pos 0 ≤ℤ plainly (pos c) es k) × (plainly (pos c) es k ≤ℤ pos b))
       (λ γ s k. closed_plainly b k c γ.move le (s k).0 (s k).1)
-      (good_wins g wf (closed b) (closed_dec g wf b) p c good),
+      (good_wins g wf (closed b).table (closed_dec g wf b) p c good),
   λ w.
-      wins_good g wf (closed b) p c lt
-      (wins_map g p (λ es. (k : ℕ) → (pos 0 ≤ℤ plainly (pos c) es k) × (plainly (pos c) es k ≤ℤ pos b)) (Stays (closed b) c)
+      wins_good g wf (closed b).table p c lt
+      (wins_map g p (λ es. (k : ℕ) → (pos 0 ≤ℤ plainly (pos c) es k) × (plainly (pos c) es k ≤ℤ pos b)) (Stays (closed b).table c)
       (λ γ h k. closed_stays b k c γ.move le (all_in g wf p γ) h) w),
 )
 

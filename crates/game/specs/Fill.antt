@@ -2,12 +2,12 @@
 use Rattle.std.specs.Prelude.{◌≡◌, ℕ, zero, suc, ◌<◌, ◌≤◌, List, Some, None, Option}
 use Rattle.std.specs.List.{slice_get}
 use Rattle.game.specs.Game.{Owner, Ours, Theirs, Edge, Place, Game}
-use Rattle.game.specs.Vessel.{Table}
+use Rattle.game.specs.Vessel.{Table, Hopper}
 
 -- P of a move that we can choose where the choice is ours, P of whatever they choose where it is theirs
-abbrev pub Choice : Owner → List Edge → (Edge → Type 0) → Type 0
-Choice Ours ms P = (m : ℕ) × (e : Edge) × (slice_get ms m ≡ Some e) × P e
-Choice Theirs ms P = (m : ℕ) (e : Edge) → slice_get ms m ≡ Some e → P e
+abbrev pub Choice : {M : Type 0} → Owner → List M → (M → Type 0) → Type 0
+Choice {M} Ours ms P = (m : ℕ) × (e : M) × (slice_get ms m ≡ Some e) × P e
+Choice {M} Theirs ms P = (m : ℕ) (e : M) → slice_get ms m ≡ Some e → P e
 
 -- one move can be made from (p, c) so that, whoever makes it, the place and level reached are in S
 abbrev pub Step : Game → Table → (ℕ → ℕ → Type 0) → ℕ → ℕ → Type 0
@@ -34,21 +34,30 @@ abbrev pub IsLeast : (ℕ → Type 0) → Option ℕ → Type 0
 IsLeast P None = (c : ℕ) → ¬ P c
 IsLeast P (Some c) = P c × ((d : ℕ) → d < c → ¬ P d)
 
+-- P holds of one number, or None, at most
+abbrev pub AtMostOne : (Option ℕ → Type 0) → Type 0
+AtMostOne P = (o o' : Option ℕ) → P o → P o' → o ≡ o'
+
+-- the largest number of which P holds
+pub record IsLargest (P : ℕ → Type 0) (n : ℕ) : Type 0 where
+  pub attained : P n
+  pub most : (k : ℕ) → P k → k ≤ n
+
 -- a row: a level or None at each place
 abbrev pub Row : Type 0
 Row = ℕ → Option ℕ
 
 -- row j: at each place the lowest fill, up to the top, that holds for j moves
-abbrev pub IsRow : Game → Table → ℕ → ℕ → Row → Type 0
-IsRow g t top j row = (p : ℕ) → p < g.places → IsLeast (λ c. (c ≤ top) × Holds g t j p c) (row p)
+abbrev pub IsRow : Game → Hopper → ℕ → Row → Type 0
+IsRow g v j row = (p : ℕ) → p < g.places → IsLeast (λ c. (c ≤ v.top) × Holds g v.table j p c) (row p)
 
 -- row j is row j + 1 too
-abbrev pub Repeats : Game → ℕ → Table → ℕ → Type 0
-Repeats g top t j = (row : Row) × IsRow g t top j row × IsRow g t top (suc j) row
+abbrev pub Repeats : Game → Hopper → ℕ → Type 0
+Repeats g v j = (row : Row) × IsRow g v j row × IsRow g v (suc j) row
 
 -- j is the first row that repeats
-abbrev pub FirstRepeat : Game → ℕ → Table → ℕ → Type 0
-FirstRepeat g top t j = Repeats g top t j × ((i : ℕ) → i < j → ¬ Repeats g top t i)
+abbrev pub FirstRepeat : Game → Hopper → ℕ → Type 0
+FirstRepeat g v j = Repeats g v j × ((i : ℕ) → i < j → ¬ Repeats g v i)
 
 -- the lowest good fill of the place, None where all are bad
 abbrev pub LeastGood : Game → Table → ℕ → Option ℕ → Type 0

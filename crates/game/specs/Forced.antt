@@ -1,8 +1,9 @@
 -- Forced marks, and the unfolded game of a game and a vessel.
-use Rattle.std.specs.Prelude.{◌≡◌, ℕ, zero, suc, ◌+◌, ◌*◌, ◌/◌, ◌%◌, cond, ◌⊎◌, List, [], ◌∷◌, pos, Some, None, Option, nat_le, nat_lt}
+use Rattle.std.specs.Prelude.{◌≡◌, ℕ, zero, suc, ◌+◌, ◌*◌, ◌/◌, ◌%◌, cond, ◌⊎◌, [], ◌∷◌, map, pos, Some, None, Option, nat_le, nat_lt}
+use Rattle.std.specs.Option.{option_map}
 use Rattle.game.specs.Limits.{most_fills}
 use Rattle.game.specs.Game.{Owner, Ours, Theirs, Edge, Place, Game}
-use Rattle.game.specs.Vessel.{Table}
+use Rattle.game.specs.Vessel.{Hopper}
 use Rattle.game.specs.Fill.{Choice, IsLeast}
 
 -- the one who has to put up with the choice
@@ -37,28 +38,22 @@ landing g top p None = spill g top
 landing g top p (Some d) = cell top p d
 
 -- the move e at level c
-abbrev pub unfold_edge : Game → ℕ → Table → ℕ → Edge → Edge
-unfold_edge g top t c e = record { target = landing g top e.target (t c e.amount); amount = pos 0 }
-
--- the moves of a place at level c
-abbrev pub unfold_moves : Game → ℕ → Table → ℕ → List Edge → List Edge
-unfold_moves g top t c [] = []
-unfold_moves g top t c (e ∷ es) = unfold_edge g top t c e ∷ unfold_moves g top t c es
+abbrev pub unfold_edge : Game → Hopper → ℕ → Edge → Edge
+unfold_edge g v c e = record { target = landing g v.top e.target (v.table c e.amount); amount = pos 0 }
 
 -- the place at level c
-abbrev pub unfold_place : Game → ℕ → Table → ℕ → Option Place → Option Place
-unfold_place g top t c None = None
-unfold_place g top t c (Some q) = Some (record { owner = q.owner; moves = unfold_moves g top t c q.moves })
+abbrev pub unfold_place : Game → Hopper → ℕ → Place → Place
+unfold_place g v c q = record { owner = q.owner; moves = map (unfold_edge g v c) q.moves }
 
 -- a place of ours with one move, back to itself
 abbrev pub alone : ℕ → Place
 alone s = record { owner = Ours; moves = record { target = s; amount = pos 0 } ∷ [] }
 
 -- the places at their levels, then the spill
-abbrev pub unfold_at : Game → ℕ → Table → ℕ → Option Place
-unfold_at g top t s =
-    cond (nat_lt s (spill g top)) (unfold_place g top t (s % (top + 1)) (g.at (s / (top + 1))))
-    (cond (nat_le s (spill g top)) (Some (alone s)) None)
+abbrev pub unfold_at : Game → Hopper → ℕ → Option Place
+unfold_at g v s =
+    cond (nat_lt s (spill g v.top)) (option_map (unfold_place g v (s % (v.top + 1))) (g.at (s / (v.top + 1))))
+    (cond (nat_le s (spill g v.top)) (Some (alone s)) None)
 
 -- the spill and nothing else
 abbrev pub only_spill : ℕ → Option Place
@@ -66,6 +61,6 @@ only_spill zero = Some (alone 0)
 only_spill (suc s) = None
 
 -- the unfolded game: all fills and the spill, or the spill alone where the fills are too many
-abbrev pub unfolded : Game → ℕ → Table → Game
-unfolded g top t =
-    cond (nat_le (spill g top) most_fills) (record { places = spill g top + 1; at = unfold_at g top t }) (record { places = 1; at = only_spill })
+abbrev pub unfolded : Game → Hopper → Game
+unfolded g v =
+    cond (nat_le (spill g v.top) most_fills) (record { places = spill g v.top + 1; at = unfold_at g v }) (record { places = 1; at = only_spill })

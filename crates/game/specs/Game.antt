@@ -1,6 +1,6 @@
 -- A game: places with an owner each, moves with a target and an amount.
-use Rattle.std.specs.Prelude.{◌≡◌, ℕ, zero, suc, ◌+◌, ◌<◌, ◌≤◌, max, List, [], ◌∷◌, length, ℤ, pos, negsuc, Some, None, Option, unsigned_abs}
-use Rattle.std.specs.List.{slice_get}
+use Rattle.std.specs.Prelude.{◌≡◌, ℕ, suc, ◌<◌, ◌≤◌, max, List, [], ◌∷◌, map, length, ℤ, pos, negsuc, Some, None, Option, unsigned_abs}
+use Rattle.std.specs.List.{slice_get, sum, range_with_len}
 use Rattle.game.specs.Limits.{most_places, most_moves, most_amount}
 pub use Rattle.game.specs.declared.Edge.{Edge}
 pub use Rattle.game.specs.declared.Owner.{Owner}
@@ -20,11 +20,15 @@ pub record Game : Type 0 where
 abbrev pub InLimits : ℤ → Type 0
 InLimits a = unsigned_abs a ≤ most_amount
 
--- a place of the game has few enough moves, at least one, and each leads to a place by an amount that may be poured
+-- of the moves of a place there is at least one, there are few enough, and each leads to one of so many places
+pub record SoundMoves {M : Type 0} (target : M → ℕ) (places : ℕ) (moves : List M) : Type 0 where
+  pub some_move : 1 ≤ length moves
+  pub few_moves : length moves ≤ most_moves
+  pub targets : (m : ℕ) (e : M) → slice_get moves m ≡ Some e → target e < places
+
+-- the moves of a place of the game are sound, and pour amounts that may be poured
 pub record SoundPlace (g : Game) (q : Place) : Type 0 where
-  pub some_move : 1 ≤ length q.moves
-  pub few_moves : length q.moves ≤ most_moves
-  pub targets : (m : ℕ) (e : Edge) → slice_get q.moves m ≡ Some e → e.target < g.places
+  pub sound : SoundMoves (λ (e : Edge). e.target) g.places q.moves
   pub amounts : (m : ℕ) (e : Edge) → slice_get q.moves m ≡ Some e → InLimits e.amount
 
 -- each number below the number of places names a sound place, any other names none
@@ -49,11 +53,6 @@ abbrev pub drop_at : Option Place → ℕ
 drop_at None = 0
 drop_at (Some q) = drop_of q.moves
 
--- f 0, f 1 and so on, n of them, added up
-abbrev pub sum_below : ℕ → (ℕ → ℕ) → ℕ
-sum_below zero f = 0
-sum_below (suc n) f = sum_below n f + f n
-
 -- the drops of all the places together
 abbrev pub drop_sum : Game → ℕ
-drop_sum g = sum_below g.places (λ p. drop_at (g.at p))
+drop_sum g = sum (map (λ p. drop_at (g.at p)) (range_with_len 0 g.places))

@@ -31,6 +31,40 @@ Legal g o p plan =
     (run : Run) (p' : ℕ) (q : Place) → Leads g p run p' → g.at p' ≡ Some q → q.owner ≡ o
     → (e : Edge) × (slice_get q.moves (plan run) ≡ Some e)
 
+-- the move number that the owner's plan answers at the start
+abbrev pub chosen : Owner → Plan → Plan → ℕ
+chosen Ours ours theirs = ours []
+chosen Theirs ours theirs = theirs []
+
+-- One legal reply of the other side makes it happen, against every plan of ours of this kind.
+abbrev pub TheyBringAbout : Game → ℕ → (Plan → Type 0) → (Plan → Plan → Type 0) → Type 0
+TheyBringAbout g p kind happens =
+    (reply : Plan) × Legal g Theirs p reply
+    × ((plan : Plan) → kind plan → happens plan reply)
+
+-- One legal plan of ours keeps it from happening, against every reply.
+abbrev pub WePrevent : Game → ℕ → (Plan → Plan → Type 0) → Type 0
+WePrevent g p happens =
+    (plan : Plan) × Legal g Ours p plan
+    × ((reply : Plan) → ¬ happens plan reply)
+
+-- It can be made to happen within just so many moves and no fewer, or, where it is None, be kept from ever happening.
+abbrev pub ExactlyWithin : Game → ℕ → (Plan → Type 0) → (ℕ → Plan → Plan → Type 0) → Option ℕ → Type 0
+ExactlyWithin g p kind within None = WePrevent g p (λ plan reply. (i : ℕ) × within i plan reply)
+ExactlyWithin g p kind within (Some n) = TheyBringAbout g p kind (within n) × ((i : ℕ) → i < n → WePrevent g p (within i))
+
+-- the play from p comes to the target within i moves
+abbrev pub ReachesWithin : Game → ℕ → ℕ → ℕ → Plan → Plan → Type 0
+ReachesWithin g target zero p ours theirs = p ≡ target
+ReachesWithin g target (suc i) p ours theirs =
+    (p ≡ target)
+    ⊎ ((q : Place) × (g.at p ≡ Some q) × (e : Edge) × (slice_get q.moves (chosen q.owner ours theirs) ≡ Some e)
+    × ReachesWithin g target i e.target (after (chosen q.owner ours theirs) ours) (after (chosen q.owner ours theirs) theirs))
+
+-- The other side can bring the run from p to the target within just so many moves, or, where it is None, we keep away for ever.
+abbrev pub ExactlyBrought : Game → ℕ → ℕ → Option ℕ → Type 0
+ExactlyBrought g target p = ExactlyWithin g p (Legal g Ours p) (λ i. ReachesWithin g target i p)
+
 -- the vessel pours the run from place p and level c, which leads to place p' and level c'
 abbrev pub Poured : Game → Table → ℕ → ℕ → Run → ℕ → ℕ → Type 0
 Poured g t p c [] p' c' = (p ≡ p') × (c ≡ c')
@@ -43,11 +77,6 @@ LegalOver g t o p c plan =
     (run : Run) (p' c' : ℕ) (q : Place) → Poured g t p c run p' c' → g.at p' ≡ Some q → q.owner ≡ o
     → (e : Edge) × (slice_get q.moves (plan run) ≡ Some e)
 
--- the move number that the owner's plan answers at the start
-abbrev pub chosen : Owner → Plan → Plan → ℕ
-chosen Ours ours theirs = ours []
-chosen Theirs ours theirs = theirs []
-
 -- in the play from place p at level c, one of the first i moves is refused by the vessel
 abbrev pub RefusedWithin : Game → Table → ℕ → ℕ → ℕ → Plan → Plan → Type 0
 RefusedWithin g t zero p c ours theirs = ⊥
@@ -57,25 +86,18 @@ RefusedWithin g t (suc i) p c ours theirs =
     ⊎ ((d : ℕ) × (t c e.amount ≡ Some d)
     × RefusedWithin g t i e.target d (after (chosen q.owner ours theirs) ours) (after (chosen q.owner ours theirs) theirs)))
 
--- One legal reply of the other side makes the vessel refuse within i moves, against every plan of ours that names a move wherever it is asked.
+-- The other side makes the vessel refuse within i moves, against every plan that names a move wherever it is asked.
 abbrev pub OtherSideForces : Game → Table → ℕ → ℕ → ℕ → Type 0
-OtherSideForces g t i p c =
-    (reply : Plan) × Legal g Theirs p reply
-    × ((plan : Plan) → LegalOver g t Ours p c plan → RefusedWithin g t i p c plan reply)
+OtherSideForces g t i p c = TheyBringAbout g p (LegalOver g t Ours p c) (RefusedWithin g t i p c)
 
--- One legal plan of ours keeps the vessel from refusing within i moves, against every reply.
+-- We keep the vessel from refusing within i moves.
 abbrev pub WeHold : Game → Table → ℕ → ℕ → ℕ → Type 0
-WeHold g t i p c =
-    (plan : Plan) × Legal g Ours p plan
-    × ((reply : Plan) → ¬ RefusedWithin g t i p c plan reply)
+WeHold g t i p c = WePrevent g p (RefusedWithin g t i p c)
 
--- One legal plan of ours keeps the vessel from ever refusing, against every reply.
+-- We keep the vessel from ever refusing.
 abbrev pub WeHoldForever : Game → Table → ℕ → ℕ → Type 0
-WeHoldForever g t p c =
-    (plan : Plan) × Legal g Ours p plan
-    × ((reply : Plan) (i : ℕ) → ¬ RefusedWithin g t i p c plan reply)
+WeHoldForever g t p c = WePrevent g p (λ plan reply. (i : ℕ) × RefusedWithin g t i p c plan reply)
 
--- What the mark of a fill tells, above the top too: the exact number of moves within which the other side can force a refusal.
-abbrev pub Fate : Game → Table → ℕ → ℕ → Option ℕ → Type 0
-Fate g t p c None = WeHoldForever g t p c
-Fate g t p c (Some n) = OtherSideForces g t n p c × ((i : ℕ) → i < n → WeHold g t i p c)
+-- The other side can force a refusal within just so many moves and no fewer, or, where it is None, not at all.
+abbrev pub ExactlyForced : Game → Table → ℕ → ℕ → Option ℕ → Type 0
+ExactlyForced g t p c = ExactlyWithin g p (LegalOver g t Ours p c) (λ i. RefusedWithin g t i p c)

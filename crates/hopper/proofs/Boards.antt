@@ -65,4 +65,4 @@ module _ (g : Game) (wf : WellFormed g) where
 
   -- the target of a move that is answered is a place
   pub step_inside : (p m : ℕ) (e : Edge) → step_at (g.at p) m ≡ Some e → e.target < g.places
-  step_inside p m e h = let w = step_place (g.at p) m e h in (sound_at g wf p w.0 w.1).targets m e w.2
+  step_inside p m e h = let w = step_place (g.at p) m e h in (sound_at g wf p w.0 w.1).sound.targets m e w.2

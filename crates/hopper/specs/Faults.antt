@@ -6,80 +6,44 @@ use Rattle.hopper.specs.declared.Fault.{Fault}
 use Rattle.hopper.specs.declared.Layer.{Layer}
 use Rattle.hopper.specs.declared.Layer.TheVariants.{Bytes, File, Line, Rest}
 use Rattle.hopper.specs.declared.Refusal.{Refusal}
-use Rattle.hopper.specs.declared.Refusal.TheVariants.{
-  FileTooLong,
-  FileTooShort,
-  UnknownVersion,
-  UnknownKind,
-  PlacesOutOfRange,
-  MovesOutOfRange,
-  VesselOutOfRange,
-  WrongDistance,
-  DistancePastStart,
-  BadPlaceRecord,
-  TotalsDiffer,
-  BadNameByte,
-  BadMoveRecord,
-  TableTooShort,
-  OutputTooShort,
-  TooManyFills,
-  MarksTooShort,
-  NoSuchPlace,
-  RowTooShort,
-  RowsKeepChanging,
-  PlanAtTheirs,
-  NoMoveServes,
-  FillAboveTop,
-  LookTooFar,
-  HeightAboveGauge,
-  LitresAboveGauge,
-  FillNotGood,
-  OrderStillOpen,
-  NotOnBoard,
-  PlaceIsTheirs,
-  NoGoodMove,
-  NotTheOpenOrder,
-  VesselRefuses,
-  PlaceIsOurs,
-  NoSuchMove,
-}
+use Rattle.hopper.specs.declared.Refusal.TheVariants as refusal
 
 abbrev pub refusal_number : Refusal → ℕ
-refusal_number FileTooLong = 1
-refusal_number FileTooShort = 2
-refusal_number UnknownVersion = 3
-refusal_number UnknownKind = 4
-refusal_number PlacesOutOfRange = 5
-refusal_number MovesOutOfRange = 6
-refusal_number VesselOutOfRange = 7
-refusal_number WrongDistance = 8
-refusal_number DistancePastStart = 9
-refusal_number BadPlaceRecord = 10
-refusal_number TotalsDiffer = 11
-refusal_number BadNameByte = 12
-refusal_number BadMoveRecord = 13
-refusal_number TableTooShort = 14
-refusal_number OutputTooShort = 15
-refusal_number TooManyFills = 16
-refusal_number MarksTooShort = 17
-refusal_number NoSuchPlace = 18
-refusal_number RowTooShort = 19
-refusal_number RowsKeepChanging = 20
-refusal_number PlanAtTheirs = 21
-refusal_number NoMoveServes = 22
-refusal_number FillAboveTop = 23
-refusal_number LookTooFar = 24
-refusal_number HeightAboveGauge = 25
-refusal_number LitresAboveGauge = 26
-refusal_number FillNotGood = 27
-refusal_number OrderStillOpen = 28
-refusal_number NotOnBoard = 29
-refusal_number PlaceIsTheirs = 30
-refusal_number NoGoodMove = 31
-refusal_number NotTheOpenOrder = 32
-refusal_number VesselRefuses = 33
-refusal_number PlaceIsOurs = 34
-refusal_number NoSuchMove = 35
+refusal_number refusal.FileTooLong = 1
+refusal_number refusal.FileTooShort = 2
+refusal_number refusal.UnknownVersion = 3
+refusal_number refusal.UnknownKind = 4
+refusal_number refusal.PlacesOutOfRange = 5
+refusal_number refusal.MovesOutOfRange = 6
+refusal_number refusal.VesselOutOfRange = 7
+refusal_number refusal.WrongDistance = 8
+refusal_number refusal.DistancePastStart = 9
+refusal_number refusal.BadPlaceRecord = 10
+refusal_number refusal.TotalsDiffer = 11
+refusal_number refusal.BadNameByte = 12
+refusal_number refusal.BadMoveRecord = 13
+refusal_number refusal.TableTooShort = 14
+refusal_number refusal.OutputTooShort = 15
+refusal_number refusal.TooManyFills = 16
+refusal_number refusal.MarksTooShort = 17
+refusal_number refusal.NoSuchPlace = 18
+refusal_number refusal.RowTooShort = 19
+refusal_number refusal.RowsKeepChanging = 20
+refusal_number refusal.PlanAtTheirs = 21
+refusal_number refusal.NoMoveServes = 22
+refusal_number refusal.FillAboveTop = 23
+refusal_number refusal.LookTooFar = 24
+refusal_number refusal.HeightAboveGauge = 25
+refusal_number refusal.LitresAboveGauge = 26
+refusal_number refusal.FillNotGood = 27
+refusal_number refusal.OrderStillOpen = 28
+refusal_number refusal.NotOnBoard = 29
+refusal_number refusal.PlaceIsTheirs = 30
+refusal_number refusal.NoGoodMove = 31
+refusal_number refusal.NotTheOpenOrder = 32
+refusal_number refusal.VesselRefuses = 33
+refusal_number refusal.PlaceIsOurs = 34
+refusal_number refusal.NoSuchMove = 35
 
 abbrev pub layer_number : Layer → ℕ
 layer_number Bytes = 1

@@ -1,5 +1,5 @@
 // A vessel of any of the three kinds.
-ghost use Rattle.hopper.specs.Any.{any_top, any_table, any_keeps};
+ghost use Rattle.hopper.specs.Any.{any_hopper, any_keeps};
 
 use super::closed::Closed;
 use super::drawn::Drawn;
@@ -15,9 +15,7 @@ pub enum AnyVessel {
 }
 
 impl Vessel for AnyVessel {
-    ghost top = { any_top };
-
-    ghost table = { any_table };
+    ghost hopper = { any_hopper };
 
     ghost keeps = { any_keeps };
 

@@ -26,9 +26,7 @@ impl Closed {
 }
 
 impl Vessel for Closed {
-    ghost top = { λ v. v.top.litres };
-
-    ghost table = { λ v. closed v.top.litres };
+    ghost hopper = { λ v. closed v.top.litres };
 
     ghost keeps = { λ v. (vessels_keep_rules v.top.litres 0 v.top.fits).closed_keeps };
 

@@ -2,6 +2,7 @@
 ghost use Rattle.std.specs.Prelude.{◌≡◌, ◌≤◌};
 ghost use Rattle.game.specs.Limits.{most_draw};
 ghost use Rattle.game.specs.Vessel.{drawn};
+ghost use Rattle.game.specs.Rows.{need_drawn};
 ghost use Rattle.game.proofs.Vessels.{vessels_keep_rules};
 ghost use Rattle.hopper.specs.Making.{drawn_checks};
 ghost use Rattle.hopper.specs.Refusing.{Answers};
@@ -38,9 +39,7 @@ impl Drawn {
 }
 
 impl Vessel for Drawn {
-    ghost top = { λ v. v.top.litres };
-
-    ghost table = { λ v. drawn v.top.litres v.draw };
+    ghost hopper = { λ v. drawn v.top.litres v.draw };
 
     ghost keeps = { λ v. (vessels_keep_rules v.top.litres v.draw v.top.fits).drawn_keeps };
 
@@ -56,10 +55,14 @@ impl Vessel for Drawn {
 }
 
 impl Graded for Drawn {
+    ghost need = { λ v. need_drawn v.top.litres v.draw };
+
     fn need(&self, wanted: u32, amount: i32) -> Option<u32> {
         if wanted > self.top.litres {
             return None;
         }
         self.top.lifted(wanted + self.draw, amount)
     }
+
+    ghost graded = { λ v. (vessels_keep_rules v.top.litres v.draw v.top.fits).drawn_graded };
 }

@@ -24,78 +24,78 @@ pub use drawn::Drawn;
 pub use lip::Lip;
 pub use vessel::{Graded, Vessel};
 
-// Why a call refuses.
+// Why a call refuses. Each case says its number, its layer and its spot, and then the reason.
 #[derive(Clone, Copy, PartialEq, Eq, Debug)]
 pub enum Refusal {
-    // the file has more bytes than any line file has
+    // 1, layer bytes, spot the longest that a file may be: the file has more bytes than any line file has
     FileTooLong = 1,
-    // the file has no room for a trailer
+    // 2, layer bytes, spot its length: the file has no room for a trailer
     FileTooShort = 2,
-    // the file is of a version that is not known
+    // 3, layer file, spot the field's offset: the file is of a version that is not known
     UnknownVersion = 3,
-    // the kind is none of lip, closed and drawn
+    // 4, layer file, spot the field's offset; in writing the number: the kind is none of lip, closed and drawn
     UnknownKind = 4,
-    // the number of places is out of range
+    // 5, layer file, spot the field's offset; in writing the number: the number of places is out of range
     PlacesOutOfRange = 5,
-    // there are fewer moves than places, or too many
+    // 6, layer file, spot the field's offset; in writing the number: there are fewer moves than places, or too many
     MovesOutOfRange = 6,
-    // the top or the draw is out of range
+    // 7, layer file, spot the field's offset; in writing, and in making a vessel, the number: the top or the draw is out of range
     VesselOutOfRange = 7,
-    // the distance back is not what the places and moves take
+    // 8, layer file, spot the field's offset: the distance back is not what the places and moves take
     WrongDistance = 8,
-    // the distance back leads beyond the start of the file
+    // 9, layer bytes, spot the trailer's offset: the distance back leads beyond the start of the file
     DistancePastStart = 9,
-    // a place record has a wrong owner, too long a name or no move
+    // 10, layer line, spot the place: a place record has a wrong owner, too long a name or no move
     BadPlaceRecord = 10,
-    // the move counts or the name lengths do not add up
+    // 11, layer line, spot the number of places: the move counts or the name lengths do not add up
     TotalsDiffer = 11,
-    // a byte of a name is no printable character
+    // 12, layer file, spot the byte's offset: a byte of a name is no printable character
     BadNameByte = 12,
-    // a move leads to no place, or its amount is out of range
+    // 13, layer line, spot the move's number in the file: a move leads to no place, or its amount is out of range
     BadMoveRecord = 13,
-    // a table has no room for the records
+    // 14, layer rest, spot the entries needed: a table has no room for the records
     TableTooShort = 14,
-    // the output has no room for the file
+    // 15, layer rest, spot the bytes needed: the output has no room for the file
     OutputTooShort = 15,
-    // there are too many fills to mark
+    // 16, layer rest, spot the top: there are too many fills to mark
     TooManyFills = 16,
-    // the marks are too short
+    // 17, layer rest, spot the entries needed: the marks are too short
     MarksTooShort = 17,
-    // there is no such place
+    // 18, layer rest, spot the place asked for: there is no such place
     NoSuchPlace = 18,
-    // a row is too short
+    // 19, layer rest, spot the entries needed: a row is too short
     RowTooShort = 19,
-    // within the budget each row differs from the next
+    // 20, layer rest, spot the budget: within the budget each row differs from the next
     RowsKeepChanging = 20,
-    // a plan is asked for at a place of theirs
+    // 21, layer rest, spot the place: a plan is asked for at a place of theirs
     PlanAtTheirs = 21,
-    // at this entry nothing can be planned
+    // 22, layer rest, spot the place: at this entry nothing can be planned
     NoMoveServes = 22,
-    // the vessel cannot hold so much
+    // 23, layer rest, spot the fill: the vessel cannot hold so much
     FillAboveTop = 23,
-    // the look-ahead is over too many moves
+    // 24, layer rest, spot the number of moves: the look-ahead is over too many moves
     LookTooFar = 24,
-    // the height is above the gauge
+    // 25, layer rest, spot the height: the height is above the gauge
     HeightAboveGauge = 25,
-    // the gauge does not go up to so many litres
+    // 26, layer rest, spot the litres: the gauge does not go up to so many litres
     LitresAboveGauge = 26,
-    // the mark of the fill is not never
+    // 27, layer rest, spot the place: the mark of the fill is not never
     FillNotGood = 27,
-    // an order is open
+    // 28, layer rest, spot the shift's place: an order is open
     OrderStillOpen = 28,
-    // the shift stands off this board, or above this vessel's top
+    // 29, layer rest, spot the shift's place: the shift stands off this board, or above this vessel's top
     NotOnBoard = 29,
-    // the place is theirs
+    // 30, layer rest, spot the shift's place: the place is theirs
     PlaceIsTheirs = 30,
-    // no move is poured to a good level
+    // 31, layer rest, spot the shift's place: no move is poured to a good level
     NoGoodMove = 31,
-    // this is not the open order
+    // 32, layer rest, spot the shift's place: this is not the open order
     NotTheOpenOrder = 32,
-    // the vessel refuses the move
+    // 33, layer rest, spot the shift's place: the vessel refuses the move
     VesselRefuses = 33,
-    // the place is ours
+    // 34, layer rest, spot the shift's place: the place is ours
     PlaceIsOurs = 34,
-    // there is no such move
+    // 35, layer rest, spot the move: there is no such move
     NoSuchMove = 35,
 }
 

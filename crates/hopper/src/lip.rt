@@ -1,6 +1,7 @@
 // The vessel with a lip.
 ghost use Rattle.std.specs.Prelude.{◌≡◌};
 ghost use Rattle.game.specs.Vessel.{lip};
+ghost use Rattle.game.specs.Rows.{need_lip};
 ghost use Rattle.game.proofs.Vessels.{vessels_keep_rules};
 ghost use Rattle.hopper.specs.Making.{top_checks};
 ghost use Rattle.hopper.specs.Refusing.{Answers};
@@ -27,9 +28,7 @@ impl Lip {
 }
 
 impl Vessel for Lip {
-    ghost top = { λ v. v.top.litres };
-
-    ghost table = { λ v. lip v.top.litres };
+    ghost hopper = { λ v. lip v.top.litres };
 
     ghost keeps = { λ v. (vessels_keep_rules v.top.litres 0 v.top.fits).lip_keeps };
 
@@ -44,7 +43,11 @@ impl Vessel for Lip {
 }
 
 impl Graded for Lip {
+    ghost need = { λ v. need_lip v.top.litres };
+
     fn need(&self, wanted: u32, amount: i32) -> Option<u32> {
         self.top.lifted(wanted, amount)
     }
+
+    ghost graded = { λ v. (vessels_keep_rules v.top.litres 0 v.top.fits).lip_graded };
 }

@@ -20,7 +20,7 @@ fn write_again(
     ensures { MatchResult result (λ n. (n ≡ length (file_of line.now)) × (out.new ≡ file_of line.now ++ drop n out.old)) (λ _. out.new ≡ out.old) }
 {
     line.unpack(places, moves)?;
-    let (n, m) = (line.places(), line.moves());
+    let (n, m) = (line.place_count(), line.move_count());
     let tables = LineTables {
         places: &places[0..n],
         moves: &moves[0..m],
@@ -35,8 +35,8 @@ fn write_again(
 // Whether the writer makes the bytes of the file again.
 fn written_alike(rt: &HostRuntime, line: &FileLine, file: &[u8]) -> io::Result<bool> {
     let heap = rt.alloc();
-    let mut places = vec![in heap; PlaceRecord::default(); line.places()]?;
-    let mut moves = vec![in heap; MoveRecord::default(); line.moves()]?;
+    let mut places = vec![in heap; PlaceRecord::default(); line.place_count()]?;
+    let mut moves = vec![in heap; MoveRecord::default(); line.move_count()]?;
     let mut out = vec![in heap; 0u8; file.len()]?;
     let written = write_again(line, &mut places, &mut moves, &mut out);
     Ok(written.is_ok_and(|n| n == file.len() && out.as_slice() == file))
@@ -46,12 +46,12 @@ fn written_alike(rt: &HostRuntime, line: &FileLine, file: &[u8]) -> io::Result<b
 fn print_place(rt: &HostRuntime, line: &FileLine, p: u32) -> io::Result<()> {
     let (Some(owner), Some(moves), Some(name)) = (
         line.owner(p),
-        Board::moves(line, p),
+        line.moves(p),
         line.name(p as usize),
     ) else {
         return Ok(());
     };
-    println!(rt; "{p} {owner} {moves} {}", name.text())
+    println!(rt; "{p} {owner} {moves} {}", name.text)
 }
 
 fn print_line(rt: &HostRuntime, line: &FileLine, file: &[u8]) -> io::Result<()> {
@@ -63,7 +63,7 @@ fn print_line(rt: &HostRuntime, line: &FileLine, file: &[u8]) -> io::Result<()> 
     };
     println!(rt; "accepted {line}, {bytes} bytes, written again {alike}")?;
     // kept as it is: no plainer, a line answers by the number of a place
-    for p in 0..Board::places(line) {
+    for p in 0..line.places() {
         print_place(rt, line, p)?;
     }
     Ok(())

@@ -1,2 +1,1 @@
--- The proofs of this crate that several functions cite.
 pub mod Answering

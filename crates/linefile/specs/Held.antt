@@ -18,17 +18,17 @@ abbrev pub file_of : FileLine → List ℕ
 file_of b = b.file.bytes.now
 
 -- the line that the file of a line spells
-abbrev pub held : FileLine → Line
-held b = line_of (file_of b)
+abbrev pub line_held : FileLine → Line
+line_held b = line_of (file_of b)
 
 -- a name that was handed out, by its letters and its offset
 abbrev pub named : Option Name → Option (List ℕ × ℕ)
-named o = option_map (λ n. (n.letters.now, n.offset)) o
+named o = option_map (λ n. (n.text.now, n.offset)) o
 
 -- a name that was handed out is the part of the file that begins at its offset
 abbrev pub PartOf : List ℕ → Option Name → Type 0
 PartOf file None = Unit {0}
-PartOf file (Some n) = n.letters.now ≡ take (length n.letters.now) (drop n.offset file)
+PartOf file (Some n) = n.text.now ≡ take (length n.text.now) (drop n.offset file)
 
 -- the line of the first records of two tables, as many as a line has, with its names and its vessel
 abbrev pub retabled : Line → List PlaceRecord → List MoveRecord → Line

@@ -1,13 +1,14 @@
 // Numbers and records in the bytes of a file.
 ghost use Rattle.std.specs.Prelude.{◌≡◌, ℕ, ◌+◌, ◌*◌, ◌≤◌, List, ◌++◌, length, take, drop, refl};
 ghost use Rattle.std.specs.List.{flat_map};
-ghost use Rattle.lineformat.specs.Format.{Line, line_of, move_at, place_at, move_bytes, place_bytes, places_from, moves_from, records_at};
+ghost use Rattle.lineformat.specs.Format.{Line, two_at, four_at, trailer, line_of, move_at, place_at, move_bytes, place_bytes, places_from, moves_from, records_at};
+ghost use Rattle.lineformat.specs.Limits.{record_size};
 ghost use Rattle.lineformat.proofs.Spelt.{places_spelt, moves_spelt};
 
 use super::trailed::Trailed;
-use lineformat::{MoveRecord, PlaceRecord};
+use lineformat::{MoveRecord, PlaceRecord, RECORD_SIZE};
 
-// A record of four bytes, of which a line has a list.
+// A record, of which a line has a list.
 pub(crate) trait Record: Copy {
     // what its bytes are, and which record the bytes at an offset spell
     ghost bytes: { Self → List ℕ };
@@ -20,10 +21,10 @@ pub(crate) trait Record: Copy {
     ghost from: { List ℕ → ℕ };
 
     fn read_at(file: &[u8], o: usize) -> Self
-        requires { o + 4 ≤ length file.now }
+        requires { o + record_size ≤ length file.now }
         ensures { result ≡ at file.now o };
 
-    fn to_bytes(self) -> [u8; 4]
+    fn to_bytes(self) -> [u8; RECORD_SIZE]
         ensures { result ≡ bytes self };
 
     // Where the records of a file begin, and how many there are.
@@ -31,9 +32,9 @@ pub(crate) trait Record: Copy {
     fn part(file: &Trailed) -> (usize, usize)
         ensures begin { result.0 ≡ from file.now.bytes.now }
         ensures count { result.1 ≡ length (list (line_of file.now.bytes.now)) }
-        ensures inside { result.0 + result.1 * 4 ≤ length file.now.bytes.now };
+        ensures inside { result.0 + result.1 * record_size ≤ length file.now.bytes.now };
 
-    ghost four: { (x : Self) → length (bytes x) ≡ 4 };
+    ghost sized: { (x : Self) → length (bytes x) ≡ record_size };
 
     ghost spelt: { (bs : List ℕ) → list (line_of bs) ≡ records_at at bs (from bs) (length (list (line_of bs))) };
 }
@@ -45,9 +46,9 @@ impl Record for PlaceRecord {
 
     ghost list = { λ l. l.places };
 
-    ghost from = { places_from };
+    ghost from = { λ bs. places_from (trailer bs) bs };
 
-    ghost four = { λ _. refl };
+    ghost sized = { λ _. refl };
 
     ghost spelt = { places_spelt };
 
@@ -55,11 +56,11 @@ impl Record for PlaceRecord {
         PlaceRecord {
             owner: file[o],
             letters: file[o + 1],
-            moves: u16::from_le_bytes(bytes_at(file, o + 2)),
+            moves: two_at(file, o + 2),
         }
     }
 
-    fn to_bytes(self) -> [u8; 4] {
+    fn to_bytes(self) -> [u8; RECORD_SIZE] {
         let [low, high] = self.moves.to_le_bytes();
         [self.owner, self.letters, low, high]
     }
@@ -76,20 +77,20 @@ impl Record for MoveRecord {
 
     ghost list = { λ l. l.moves };
 
-    ghost from = { moves_from };
+    ghost from = { λ bs. moves_from (trailer bs) bs };
 
-    ghost four = { λ _. refl };
+    ghost sized = { λ _. refl };
 
     ghost spelt = { moves_spelt };
 
     fn read_at(file: &[u8], o: usize) -> MoveRecord {
         MoveRecord {
-            target: u16::from_le_bytes(bytes_at(file, o)),
+            target: two_at(file, o),
             amount: i16::from_le_bytes(bytes_at(file, o + 2)),
         }
     }
 
-    fn to_bytes(self) -> [u8; 4] {
+    fn to_bytes(self) -> [u8; RECORD_SIZE] {
         let [a, b] = self.target.to_le_bytes();
         let [c, d] = self.amount.to_le_bytes();
         [a, b, c, d]
@@ -101,11 +102,27 @@ impl Record for MoveRecord {
 }
 
 // The bytes at an offset.
-pub(crate) fn bytes_at<const N: usize>(file: &[u8], o: usize) -> [u8; N]
+fn bytes_at<const N: usize>(file: &[u8], o: usize) -> [u8; N]
     requires { o + N ≤ length file.now }
     ensures { result ≡ take N (drop o file.now) }
 {
     *file[o..].first_chunk().unwrap()
+}
+
+// The number of two bytes at an offset.
+pub(crate) fn two_at(file: &[u8], o: usize) -> u16
+    requires { o + 2 ≤ length file.now }
+    ensures { result ≡ two_at file.now o }
+{
+    u16::from_le_bytes(bytes_at(file, o))
+}
+
+// The number of four bytes at an offset.
+pub(crate) fn four_at(file: &[u8], o: usize) -> u32
+    requires { o + 4 ≤ length file.now }
+    ensures { result ≡ four_at file.now o }
+{
+    u32::from_le_bytes(bytes_at(file, o))
 }
 
 // Puts some bytes at an offset.
@@ -120,10 +137,10 @@ pub(crate) fn put(out: &mut [u8], o: usize, part: &[u8])
 // Puts the bytes of all records of a table from an offset on.
 #[tactic(auto, using(lineformat::proofs::Tables::put_step))]
 pub(crate) fn put_all<R: Record>(table: &[R], out: &mut [u8], from: usize)
-    requires { from + length table.now * 4 ≤ length out.old }
-    ensures { out.new ≡ take from out.old ++ (flat_map R.Record.bytes table.now ++ drop (from + length table.now * 4) out.old) }
+    requires { from + length table.now * record_size ≤ length out.old }
+    ensures { out.new ≡ take from out.old ++ (flat_map R.Record.bytes table.now ++ drop (from + length table.now * record_size) out.old) }
 {
     for (i, record) in table.iter().enumerate() {
-        put(out, from + i * 4, &record.to_bytes());
+        put(out, from + i * RECORD_SIZE, &record.to_bytes());
     }
 }

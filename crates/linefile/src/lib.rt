@@ -11,6 +11,7 @@ use trailed::Trailed;
 
 pub mod board;
 mod bytes;
+mod checks;
 pub mod input;
 pub mod printing;
 mod reading;
@@ -36,7 +37,7 @@ pub struct FileLine<'a> {
 // A name as that part of the file which it is, and the offset of that part.
 #[derive(Clone, Copy)]
 pub struct Name<'a> {
-    pub letters: &'a [u8],
+    pub text: &'a str,
     pub offset: usize,
 }
 

@@ -1,16 +1,19 @@
 // The trailer of a file, and a file whose trailer is sound.
-ghost use Rattle.std.specs.Prelude.{◌≡◌, ◌+◌, ◌*◌, ◌<◌, ◌≤◌, ◌++◌, length, drop};
+ghost use Rattle.std.specs.Prelude.{◌≡◌, ◌+◌, ◌<◌, ◌≤◌, ◌++◌, ◌^◌, length, drop};
 ghost use Rattle.std.specs.List.{slice_get};
 ghost use Rattle.hopper.specs.Refusing.{verdict, Answers};
 ghost use Rattle.lineformat.specs.Limits.{trailer_size};
-ghost use Rattle.lineformat.specs.Format.{line_of, numbers_in, offsets_in, distance_in};
-ghost use Rattle.lineformat.specs.Checks.{size_checks, version_checks, number_checks, distance_checks, trailer_checks};
-ghost use Rattle.lineformat.proofs.Spelt.{PartsOf};
+ghost use Rattle.lineformat.specs.Format.{line_of, trailer, numbers_in, offsets_in, version_in, version_offset, distance_in, distance_offset};
+ghost use Rattle.lineformat.specs.Checks.{version_check, distance_check, start_check, size_checks, field_checks, trailer_checks};
+ghost use Rattle.lineformat.specs.Inner.Parts.{PartsOf};
 
-use super::bytes::{Record, bytes_at};
-use super::records::{Records, check_numbers};
-use hopper::{Fault, Layer, Refusal, check, pass};
-use lineformat::{LONGEST_FILE, MoveRecord, Numbers, ONLY_VERSION, PlaceRecord, TRAILER_SIZE};
+use super::bytes::{Record, four_at, two_at};
+use super::checks::check_numbers;
+use super::records::Records;
+use hopper::{Check, Fault, Layer, Refusal, check, pass};
+use lineformat::{
+    LONGEST_FILE, MoveRecord, Numbers, ONLY_VERSION, PlaceRecord, RECORD_SIZE, Spots, TRAILER_SIZE,
+};
 
 // The trailer of a file that has room for one, by its offset.
 #[derive(Clone, Copy)]
@@ -20,7 +23,7 @@ struct Trailer<'a> {
     ghost ends: { offset + trailer_size ≡ length file.now },
 }
 
-// A file whose trailer is sound: the numbers in it, and where the first place and the first move begin; the names end there.
+// A file whose trailer is sound: the numbers in it, the offset of its first place, and how long its names are.
 #[derive(Clone, Copy)]
 pub(crate) struct Trailed<'a> {
     pub(crate) bytes: &'a [u8],
@@ -58,31 +61,24 @@ impl<'a> Trailer<'a> {
 
     fn numbers(&self) -> Numbers
         ensures value { result ≡ numbers_in self.now.file.now }
-        ensures small { (result.places < 65536) × (result.moves < 65536) }
+        ensures small { (result.places < 2 ^ 16) × (result.moves < 2 ^ 16) }
     {
         let (file, t) = (self.file, self.offset);
         Numbers {
-            places: u16::from_le_bytes(bytes_at(file, t)) as u64,
-            moves: u16::from_le_bytes(bytes_at(file, t + 2)) as u64,
-            top: u32::from_le_bytes(bytes_at(file, t + 4)) as u64,
-            draw: u16::from_le_bytes(bytes_at(file, t + 8)) as u64,
-            kind: file[t + 10] as u64,
+            places: u64::from(two_at(file, t)),
+            moves: u64::from(two_at(file, t + 2)),
+            top: u64::from(four_at(file, t + 4)),
+            draw: u64::from(two_at(file, t + 8)),
+            kind: u64::from(file[t + 10]),
         }
     }
 
-    // How far back from the trailer the moves begin.
-    fn distance(&self) -> u32
-        ensures { result ≡ distance_in self.now.file.now }
-    {
-        u32::from_le_bytes(bytes_at(self.file, self.offset + 12))
-    }
-
     // The offset of each number.
-    fn offsets(&self) -> Numbers
+    fn offsets(&self) -> Spots
         ensures { result ≡ offsets_in self.now.file.now }
     {
         let t = self.offset as u64;
-        Numbers {
+        Spots {
             places: t,
             moves: t + 2,
             top: t + 4,
@@ -91,47 +87,57 @@ impl<'a> Trailer<'a> {
         }
     }
 
-    #[tactic(auto, unfolding(lineformat::specs::Checks::version_checks))]
-    fn check_version(&self) -> Result<(), Fault>
-        ensures { result ≡ verdict (version_checks self.now.file.now) }
+    fn version_check(&self) -> Check
+        ensures { result ≡ version_check (version_in self.now.file.now) (version_offset self.now.file.now) }
     {
-        pass(&[check(
-            self.file[self.offset + 11] != ONLY_VERSION,
+        let offset = self.offset + 11;
+        check(
+            self.file[offset] != ONLY_VERSION,
             Refusal::UnknownVersion,
             Layer::File,
-            (self.offset + 11) as u64,
-        )])
+            offset as u64,
+        )
     }
 
-    #[tactic(auto, unfolding(lineformat::specs::Checks::distance_checks))]
-    fn check_distance(&self) -> Result<(), Fault>
-        ensures { result ≡ verdict (distance_checks self.now.file.now) }
+    // How many bytes the records take, by the trailer.
+    fn distance(&self) -> u64
+        ensures { result ≡ distance_in self.now.file.now }
+    {
+        u64::from(four_at(self.file, self.offset + 12))
+    }
+
+    fn distance_check(&self) -> Check
+        ensures { result ≡ distance_check (numbers_in self.now.file.now) (distance_in self.now.file.now) (distance_offset self.now.file.now) }
     {
         let n = self.numbers();
-        let back = self.distance() as u64;
-        pass(&[
-            check(
-                back != 4 * (n.moves + n.places),
-                Refusal::WrongDistance,
-                Layer::File,
-                (self.offset + 12) as u64,
-            ),
-            check(
-                back > self.offset as u64,
-                Refusal::DistancePastStart,
-                Layer::Bytes,
-                self.offset as u64,
-            ),
-        ])
+        check(
+            self.distance() != RECORD_SIZE as u64 * (n.moves + n.places),
+            Refusal::WrongDistance,
+            Layer::File,
+            (self.offset + 12) as u64,
+        )
+    }
+
+    fn start_check(&self) -> Check
+        ensures { result ≡ start_check (distance_in self.now.file.now) (trailer self.now.file.now) }
+    {
+        let end = self.offset as u64;
+        check(
+            self.distance() > end,
+            Refusal::DistancePastStart,
+            Layer::Bytes,
+            end,
+        )
     }
 
     // Checks what the trailer says.
-    #[tactic(auto, using(hopper::proofs::Refusing::joined_verdicts))]
+    #[tactic(auto, using(hopper::proofs::Refusing::joined_verdicts), unfolding(lineformat::specs::Checks::field_checks))]
     fn check(&self) -> Result<(), Fault>
-        ensures { result ≡ verdict (version_checks self.now.file.now ++ (number_checks (numbers_in self.now.file.now) (offsets_in self.now.file.now) ++ distance_checks self.now.file.now)) }
+        ensures { result ≡ verdict (field_checks (trailer self.now.file.now) self.now.file.now) }
     {
         let numbers = check_numbers(self.numbers(), self.offsets());
-        self.check_version().and(numbers.and(self.check_distance()))
+        let distance = pass(&[self.distance_check(), self.start_check()]);
+        pass(&[self.version_check()]).and(numbers.and(distance))
     }
 }
 
@@ -143,12 +149,12 @@ impl<'a> Trailed<'a> {
         let trailer = Trailer::of(file)?;
         trailer.check()?;
         let numbers = trailer.numbers();
-        let first = trailer.offset - 4 * numbers.places as usize;
+        let first = trailer.offset - RECORD_SIZE * numbers.places as usize;
         Ok(Trailed {
             bytes: file,
             numbers,
             first,
-            names: first - 4 * numbers.moves as usize,
+            names: first - RECORD_SIZE * numbers.moves as usize,
         })
     }
 
@@ -157,7 +163,7 @@ impl<'a> Trailed<'a> {
         ensures { result ≡ slice_get (R.Record.list (line_of self.now.bytes.now)) i }
     {
         let (from, n) = R::part(self);
-        (i < n).then(|| R::read_at(self.bytes, from + i * 4))
+        (i < n).then(|| R::read_at(self.bytes, from + i * RECORD_SIZE))
     }
 
     // Fills the first entries of a table with the records.
@@ -167,7 +173,7 @@ impl<'a> Trailed<'a> {
     {
         let (from, n) = R::part(self);
         for (i, record) in table[..n].iter_mut().enumerate() {
-            *record = R::read_at(self.bytes, from + i * 4);
+            *record = R::read_at(self.bytes, from + i * RECORD_SIZE);
         }
     }
 }
@@ -175,23 +181,23 @@ impl<'a> Trailed<'a> {
 impl<'a> Records for Trailed<'a> {
     ghost line = { λ t. line_of t.bytes.now };
 
-    fn places(&self) -> usize {
+    fn place_count(&self) -> usize {
         self.numbers.places as usize
     }
 
-    fn moves(&self) -> usize {
+    fn move_count(&self) -> usize {
         self.numbers.moves as usize
     }
 
-    fn letters(&self) -> usize {
+    fn letter_count(&self) -> usize {
         self.names
     }
 
-    fn place(&self, p: usize) -> PlaceRecord {
+    fn place_record(&self, p: usize) -> PlaceRecord {
         self.get(p).unwrap()
     }
 
-    fn step(&self, m: usize) -> MoveRecord {
+    fn move_record(&self, m: usize) -> MoveRecord {
         self.get(m).unwrap()
     }
 

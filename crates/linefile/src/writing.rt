@@ -1,17 +1,17 @@
 // Writing a line file from tables.
-ghost use Rattle.std.specs.Prelude.{◌≡◌, ◌≤◌, ◌++◌, length, drop};
+ghost use Rattle.std.specs.Prelude.{◌≡◌, ◌≤◌, [], ◌∷◌, ◌++◌, length, drop};
 ghost use Rattle.hopper.specs.Refusing.{refuse, verdict, if_accepted, Answers};
 ghost use Rattle.lineformat.specs.Format.{numbers_of, trailer_bytes, encode};
-ghost use Rattle.lineformat.specs.Checks.{number_checks, record_checks, room_checks, write_checks};
+ghost use Rattle.lineformat.specs.Checks.{spots_of, line_checks, room_check, write_checks};
 ghost use Rattle.lineformat.specs.Laws.{WritesJustTheWellFormed};
-ghost use Rattle.lineformat.proofs.Encoded.{SizeOf};
+ghost use Rattle.lineformat.specs.Inner.Parts.{SizeOf};
 ghost use Rattle.linefile.specs.Tabled.{line_in};
 
 use super::LineTables;
 use super::bytes::{put, put_all};
-use super::records::{check_numbers, check_records};
+use super::checks::{check_numbers, check_records};
 use hopper::{Fault, Layer, Refusal, check, pass};
-use lineformat::{Numbers, ONLY_VERSION, TRAILER_SIZE};
+use lineformat::{Numbers, ONLY_VERSION, RECORD_SIZE, Spots, TRAILER_SIZE};
 
 // A line that passes the checks of its numbers and its records, and the length of its file.
 #[derive(Clone, Copy)]
@@ -21,9 +21,22 @@ struct Checked<'a> {
     ghost sized: { SizeOf (line_in line) size },
 }
 
+// Writing reports a number that it refuses at the number itself.
+fn spots_of(n: Numbers) -> Spots
+    ensures { result ≡ spots_of n }
+{
+    Spots {
+        places: n.places,
+        moves: n.moves,
+        top: n.top,
+        draw: n.draw,
+        kind: n.kind,
+    }
+}
+
 impl<'a> LineTables<'a> {
     // Writes the file of this line, and answers its length; where it refuses, it writes nothing.
-    #[tactic(auto, using(lineformat::proofs::Laws::writes_just_the_well_formed, hopper::proofs::Refusing::first_refuses, hopper::proofs::Refusing::handed_on, hopper::proofs::Refusing::none_fails), unfolding(lineformat::specs::Checks::write_checks, lineformat::specs::Checks::room_checks))]
+    #[tactic(auto, using(lineformat::proofs::Laws::writes_just_the_well_formed, hopper::proofs::Refusing::first_refuses, hopper::proofs::Refusing::handed_on, hopper::proofs::Refusing::none_fails), unfolding(lineformat::specs::Checks::write_checks))]
     pub fn write(&self, out: &mut [u8]) -> Result<usize, Fault>
         ensures answer { result ≡ refuse (write_checks (line_in self.now) (length out.old)) (length (encode (line_in self.now))) }
         ensures written { out.new ≡ if_accepted result (encode (line_in self.now) ++ drop (length (encode (line_in self.now))) out.old) out.old }
@@ -48,23 +61,32 @@ impl<'a> LineTables<'a> {
     }
 
     // Checks all but the room.
-    fn checked(&self) -> Result<Checked<'a>, Fault>
-        ensures { Answers (number_checks (numbers_of (line_in self.now)) (numbers_of (line_in self.now)) ++ record_checks (line_in self.now)) (λ c. line_in c.line ≡ line_in self.now) (Unit {0}) result }
+    #[tactic(auto, unfolding(lineformat::specs::Checks::line_checks))]
+    fn check(&self) -> Result<(), Fault>
+        ensures { result ≡ verdict (line_checks (line_in self.now)) }
     {
         let n = self.numbers();
-        check_numbers(n, n)?;
-        check_records(self)?;
+        check_numbers(n, spots_of(n))?;
+        check_records(self)
+    }
+
+    fn checked(&self) -> Result<Checked<'a>, Fault>
+        ensures { Answers (line_checks (line_in self.now)) (λ c. line_in c.line ≡ line_in self.now) (Unit {0}) result }
+    {
+        self.check()?;
         Ok(Checked {
             line: *self,
-            size: self.names.len() + self.moves.len() * 4 + self.places.len() * 4 + TRAILER_SIZE,
+            size: self.names.len()
+                + self.moves.len() * RECORD_SIZE
+                + self.places.len() * RECORD_SIZE
+                + TRAILER_SIZE,
         })
     }
 }
 
 impl<'a> Checked<'a> {
-    #[tactic(auto, unfolding(lineformat::specs::Checks::room_checks))]
     fn check_room(&self, room: usize) -> Result<(), Fault>
-        ensures { result ≡ verdict (room_checks (line_in self.now.line) room) }
+        ensures { result ≡ verdict (room_check room (length (encode (line_in self.now.line))) ∷ []) }
     {
         pass(&[check(
             room < self.size,
@@ -79,7 +101,7 @@ impl<'a> Checked<'a> {
     {
         let line = self.line;
         let (n, m) = (line.places.len() as u16, line.moves.len() as u16);
-        let back = 4 * (u32::from(m) + u32::from(n));
+        let back = RECORD_SIZE as u32 * (u32::from(m) + u32::from(n));
         let mut bytes = [0; TRAILER_SIZE];
         put(&mut bytes, 0, &n.to_le_bytes());
         put(&mut bytes, 2, &m.to_le_bytes());
@@ -97,8 +119,8 @@ impl<'a> Checked<'a> {
     {
         let line = self.line;
         let moves = line.names.len();
-        let places = moves + line.moves.len() * 4;
-        let trailer = places + line.places.len() * 4;
+        let places = moves + line.moves.len() * RECORD_SIZE;
+        let trailer = places + line.places.len() * RECORD_SIZE;
         put(out, 0, line.names);
         put_all(line.moves, out, moves);
         put_all(line.places, out, places);

@@ -1,15 +1,17 @@
 -- The laws of the line file.
-use Rattle.std.proofs.Common.{◌≡◌, ℕ, true, List, ◌++◌, length, get_or, sym, ap, ◌∙◌, w8, Fits, arith}
+use Rattle.std.proofs.Common.{◌≡◌, ℕ, ◌+◌, ◌*◌, true, List, [], ◌∷◌, length, get_or, sym, ap, ◌∙◌, w8, Fits, arith}
 use Rattle.std.proofs.lemmas.Bool.{ltb-false, le-ltb}
 use Rattle.hopper.specs.Refusing.{passes}
 use Rattle.hopper.proofs.Refusing.{none_fails, all_pass, untrue, untrue_passes, passed_both, pass_both}
 use Rattle.lineformat.specs.Format.{Line, numbers_of, encode, line_of}
 use Rattle.lineformat.specs.WellFormed.{WellFormedLine}
-use Rattle.lineformat.specs.Checks.{accepts, number_checks, record_checks, room_checks, write_checks}
+use Rattle.lineformat.specs.Checks.{accepts, room_check, number_checks, record_checks, spots_of, line_checks, write_checks}
+use Rattle.lineformat.specs.Limits.{record_size, trailer_size}
+use Rattle.lineformat.specs.Inner.Parts.{SizeOf}
 use Rattle.lineformat.specs.Laws.{AcceptsJustTheWritten, WritesJustTheWellFormed}
 use Rattle.lineformat.proofs.Sound.{numbers_sound, numbers_pass, well_formed, records_pass, accepted_trailer, accepted_line}
 use Rattle.lineformat.proofs.Decoded.{Octets, encode_spelt}
-use Rattle.lineformat.proofs.Encoded.{spelt_encode, accepts_encode}
+use Rattle.lineformat.proofs.Encoded.{size_of, spelt_encode, accepts_encode}
 
 pub accepts_just_the_written : (bs : List ℕ) → Octets bs → AcceptsJustTheWritten bs
 accepts_just_the_written bs b =
@@ -22,23 +24,30 @@ accepts_just_the_written bs b =
 pub file_law : (bs : List ℕ) → ((i : ℕ) → Fits w8 (get_or bs i 0)) → AcceptsJustTheWritten bs
 file_law bs f = accepts_just_the_written bs (λ i. let h = f i in omega arith)
 
--- a line that passes all checks but the last
-pub formed_line : (l : Line) → passes (number_checks (numbers_of l) (numbers_of l) ++ record_checks l) ≡ true → WellFormedLine l
+-- a line that passes all checks but the last, and the other way round
+pub formed_line : (l : Line) → passes (line_checks l) ≡ true → WellFormedLine l
+unfolding line_checks
 formed_line l e =
-    let p = passed_both (number_checks (numbers_of l) (numbers_of l)) (record_checks l) e in
-    well_formed l (numbers_sound (numbers_of l) (numbers_of l) p.0) p.1
+    let n = numbers_of l in
+    let p = passed_both (number_checks n (spots_of n)) (record_checks l) e in
+    well_formed l (numbers_sound n (spots_of n) p.0) p.1
+
+line_passes : (l : Line) → WellFormedLine l → passes (line_checks l) ≡ true
+unfolding line_checks
+line_passes l w = let n = numbers_of l in pass_both (number_checks n (spots_of n)) (record_checks l) (numbers_pass n (spots_of n) w.numbers) (records_pass l w)
+
+-- the size of the file of a line that passes all checks but the last
+pub passed_size : (l : Line) → passes (line_checks l) ≡ true → (n : ℕ) → n ≡ length l.names + length l.moves * record_size + length l.places * record_size + trailer_size → SizeOf l n
+passed_size l e = size_of l (formed_line l e)
 
 pub writes_just_the_well_formed : (l : Line) (room : ℕ) → WritesJustTheWellFormed l room
-unfolding write_checks room_checks
+unfolding write_checks
 writes_just_the_well_formed l room =
-    let N = number_checks (numbers_of l) (numbers_of l) in
+    let R = room_check room (length (encode l)) ∷ [] in
     record {
-      written_is_formed = λ e. (let p = passed_both (N ++ record_checks l) (room_checks l room) e in
-          (formed_line l p.0, ltb-false room (length (encode l)) (untrue _ _ (none_fails (room_checks l room) p.1).0)));
-      formed_is_written = λ w h.
-          pass_both (N ++ record_checks l) (room_checks l room)
-          (pass_both N (record_checks l) (numbers_pass (numbers_of l) (numbers_of l) w.numbers) (records_pass l w))
-          (all_pass (room_checks l room) (untrue_passes _ _ (le-ltb room (length (encode l)) h), tt));
+      written_is_formed = λ e. (let p = passed_both (line_checks l) R e in
+          (formed_line l p.0, ltb-false room (length (encode l)) (untrue _ _ (none_fails R p.1).0)));
+      formed_is_written = λ w h. pass_both (line_checks l) R (line_passes l w) (all_pass R (untrue_passes _ _ (le-ltb room (length (encode l)) h), tt));
       reads_back = λ w. (accepts_encode l w, spelt_encode l w);
     }
 

@@ -1,4 +1,3 @@
--- The proofs of this crate that others cite.
 pub mod Tests
 pub mod Scan
 pub mod Tables

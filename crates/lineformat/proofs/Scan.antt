@@ -1,62 +1,42 @@
--- A scan for the first bad number: what its answer says, and the search that finds the same; and sums.
-use Rattle.std.proofs.Common.{◌≡◌, ℕ, zero, suc, ◌+◌, ◌<◌, ◌≤◌, Bool, true, false, cond, is_some, Some, None, sym, refl, ap, ◌∙◌, ⊎_elim, le_of_suc-le-suc, not-suc-le-zero, arith}
-use Rattle.std.specs.List.{fold, find, sum_by, range_with_len}
-use Rattle.std.proofs.lemmas.Bool.{cases_lt, cond-false, true≢false}
-use Rattle.game.specs.Game.{sum_below}
-use Rattle.lineformat.specs.Checks.{first_from}
+-- A search for the first bad item of a list: what it says, and the search over numbers that finds the same; and sums over numbers.
+use Rattle.std.proofs.Common.{◌≡◌, ℕ, zero, suc, ◌+◌, ◌<◌, ◌≤◌, Bool, true, false, cond, ltb, List, [], ◌∷◌, length, get_or, take, is_some, Some, None, sym, refl, ap, ◌∙◌, arith}
+use Rattle.std.specs.List.{All, fold, find, position, position_or_len, position_from, sum_by, range_with_len}
+use Rattle.std.proofs.lemmas.Bool.{le-ltb, ltb-false, true≢false}
+use Rattle.std.proofs.lemmas.Iterator.Adapters.{position_from-zero}
+use Rattle.std.proofs.lemmas.List.Sums.{fails_before_first, position_or_len_is, sum_by_more}
 
--- where the scan finds none, none is bad
-pub none_bad : (bad : ℕ → Bool) (i n : ℕ) → first_from bad i n ≡ None → (k : ℕ) → k < n → bad (i + k) ≡ false
-none_bad bad i zero e k h = absurd (not-suc-le-zero h)
-none_bad bad i (suc n) e k h = by (bad i) (λ q j l. none_bad bad (i + 1) n q j l) refl e k h
+-- where no item is found, none is bad; and the other way round
+pub none_bad : {X : Type 0} (bad : X → Bool) (P : X → Type 0) → ((x : X) → bad x ≡ false → P x) → (xs : List X) → is_some (position bad xs) ≡ false → All P xs
+none_bad bad P sound xs e k d h = sound (get_or xs k d) (fails_before_first bad xs k d (let l = ltb-false (position_or_len bad xs) (length xs) (past (ltb (position_or_len bad xs) (length xs)) e) in omega arith))
   where
-    by : (b : Bool) → (first_from bad (i + 1) n ≡ None → (j : ℕ) → j < n → bad (i + 1 + j) ≡ false) → bad i ≡ b → cond b (Some i) (first_from bad (i + 1) n) ≡ None → (k : ℕ) → k < suc n → bad (i + k) ≡ false
-    by false ih g e zero h = ap bad (let z : i + 0 ≡ i = omega arith in z) ∙ g
-    by false ih g e (suc k) h = ap bad (let z : i + suc k ≡ i + 1 + k = omega arith in z) ∙ ih e k (le_of_suc-le-suc h)
-    by true ih g e k h = absurd (true≢false (ap is_some e))
+    past : (b : Bool) → is_some (cond b (Some (position_or_len bad xs)) None) ≡ false → b ≡ false
+    past true q = absurd (true≢false q)
+    past false q = refl
 
-pub none_is_bad : (bad : ℕ → Bool) (n : ℕ) → first_from bad 0 n ≡ None → (k : ℕ) → k < n → bad k ≡ false
-none_is_bad bad n e k h = ap bad (let z : k ≡ 0 + k = omega arith in z) ∙ none_bad bad 0 n e k h
+pub none_found : {X : Type 0} (bad : X → Bool) (P : X → Type 0) → ((x : X) → P x → bad x ≡ false) → (xs : List X) (d : X) → All P xs → is_some (position bad xs) ≡ false
+none_found bad P good xs d all =
+    let n : ℕ = position_or_len bad xs in
+    let e : n ≡ length xs = position_or_len_is bad xs (length xs) d (omega arith) (λ k h. good (get_or xs k d) (all k d h)) (λ h. absurd (omega arith)) in
+    ap (λ b. is_some (cond b (Some n) None)) (le-ltb n (length xs) (omega arith))
 
--- where none is bad, the scan finds none
-pub no_first : (bad : ℕ → Bool) (i n : ℕ) → ((k : ℕ) → k < n → bad (i + k) ≡ false) → first_from bad i n ≡ None
-no_first bad i zero h = refl
-no_first bad i (suc n) h =
-    let a : bad i ≡ false = ap bad (let z : i ≡ i + 0 = omega arith in z) ∙ h 0 (omega arith) in
-    cond-false (bad i) (Some i) (first_from bad (i + 1) n) a
-    ∙ no_first bad (i + 1) n (λ k l. ap bad (let z : i + 1 + k ≡ i + suc k = omega arith in z) ∙ h (suc k) (omega arith))
+-- the search over the numbers of a list's items
+pub found_at : {X : Type 0} (bad : X → Bool) (xs : List X) (d : X) → find (λ k. bad (get_or xs k d)) (range_with_len 0 (length xs)) ≡ position bad xs
+found_at {X} bad xs d = on xs 0 (λ k. bad (get_or xs k d)) (λ k h. ap (λ i. bad (get_or xs i d)) (let z : 0 + k ≡ k = omega arith in z)) ∙ sym (position_from-zero bad xs)
+  where
+    on : (ys : List X) (i : ℕ) (f : ℕ → Bool) → ((k : ℕ) → k < length ys → f (i + k) ≡ bad (get_or ys k d)) → find f (range_with_len i (length ys)) ≡ position_from bad i ys
+    on [] i f h = refl
+    on (y ∷ ys) i f h =
+        let a : f i ≡ bad y = ap f (let z : i ≡ i + 0 = omega arith in z) ∙ h 0 (omega arith) in
+        let b = on ys (i + 1) f (λ k l. ap f (let z : i + 1 + k ≡ i + suc k = omega arith in z) ∙ h (suc k) (omega arith)) in
+        ap (λ t. cond t (Some i) (find f (range_with_len (i + 1) (length ys)))) a ∙ ap (cond (bad y) (Some i)) b
 
-pub none_found : (bad : ℕ → Bool) (n : ℕ) → ((k : ℕ) → k < n → bad k ≡ false) → first_from bad 0 n ≡ None
-none_found bad n h = no_first bad 0 n (λ k l. ap bad (let z : 0 + k ≡ k = omega arith in z) ∙ h k l)
-
--- the scan finds the first of the numbers in its range that is bad
-pub scan_finds : (bad : ℕ → Bool) (i n : ℕ) → find bad (range_with_len i n) ≡ first_from bad i n
-scan_finds bad i zero = refl
-scan_finds bad i (suc n) = ap (cond (bad i) (Some i)) (scan_finds bad (i + 1) n)
-
--- sums
-pub sum_more : (f : ℕ → ℕ) (n : ℕ) → sum_below (n + 1) f ≡ sum_below n f + f n
-sum_more f n = ap (λ k. sum_below k f) (let z : n + 1 ≡ suc n = omega arith in z)
-
--- each part is no more than the whole
-pub sum_part : (f : ℕ → ℕ) (n k : ℕ) → k < n → f k ≤ sum_below n f
-sum_part f zero k h = absurd (not-suc-le-zero h)
-sum_part f (suc n) k h = ⊎_elim (λ l. let a : f k ≤ sum_below n f = sum_part f n k l in omega arith) (λ l. let e : f k ≡ f n = ap f (let z : k ≡ n = omega arith in z) in omega arith) (cases_lt k n)
-
--- the sum up to a number, with what stands there, is no more than the whole
-pub sum_front : (f : ℕ → ℕ) (n k : ℕ) → k < n → sum_below k f + f k ≤ sum_below n f
-sum_front f zero k h = absurd (not-suc-le-zero h)
-sum_front f (suc n) k h =
-    ⊎_elim (λ l. let a : sum_below k f + f k ≤ sum_below n f = sum_front f n k l in omega arith)
-    (λ l. let e : sum_below k f + f k ≡ sum_below n f + f n = ap (λ x. sum_below x f + f x) (let z : k ≡ n = omega arith in z) in omega arith) (cases_lt k n)
-
--- the sum over the numbers in a range, from any of them on
-sum_on : (f : ℕ → ℕ) (i n : ℕ) → fold (λ a x. a + f x) (sum_below i f) (range_with_len i n) ≡ sum_below (i + n) f
-sum_on f i zero = ap (λ k. sum_below k f) (let z : i ≡ i + 0 = omega arith in z)
-sum_on f i (suc n) =
-    ap (λ b. fold (λ a x. a + f x) b (range_with_len (i + 1) n)) (sym (sum_more f i))
-    ∙ sum_on f (i + 1) n
-    ∙ ap (λ k. sum_below k f) (let z : i + 1 + n ≡ i + suc n = omega arith in z)
-
-pub sum_range : (f : ℕ → ℕ) (n : ℕ) → sum_by f (range_with_len 0 n) ≡ sum_below n f
-sum_range f n = sum_on f 0 n ∙ ap (λ k. sum_below k f) (let z : 0 + n ≡ n = omega arith in z)
+-- the sum over the numbers of a list's first items
+pub sum_range : {X : Type 0} (f : X → ℕ) (xs : List X) (d : X) (n : ℕ) → n ≤ length xs → sum_by (λ k. f (get_or xs k d)) (range_with_len 0 n) ≡ sum_by f (take n xs)
+sum_range f xs d n h = on 0 n (omega arith) ∙ ap (λ k. sum_by f (take k xs)) (let z : 0 + n ≡ n = omega arith in z)
+  where
+    on : (i n : ℕ) → i + n ≤ length xs → fold (λ a k. a + f (get_or xs k d)) (sum_by f (take i xs)) (range_with_len i n) ≡ sum_by f (take (i + n) xs)
+    on i zero h = ap (λ k. sum_by f (take k xs)) (let z : i ≡ i + 0 = omega arith in z)
+    on i (suc n) h =
+        ap (λ b. fold (λ a k. a + f (get_or xs k d)) b (range_with_len (i + 1) n)) (sym (sum_by_more f xs i d (omega arith)))
+        ∙ on (i + 1) n (omega arith)
+        ∙ ap (λ k. sum_by f (take k xs)) (let z : i + 1 + n ≡ i + suc n = omega arith in z)

@@ -1,15 +1,18 @@
 -- The parts of the line that some bytes spell.
-use Rattle.std.proofs.Common.{◌≡◌, ℕ, zero, suc, ◌+◌, ◌-◌, ◌*◌, ◌<◌, ◌≤◌, List, [], ◌∷◌, ltb, length, get_or, take, drop, is_some, Some, None, Option, sym, refl, ap, ◌∙◌, le_of_suc-le-suc, not-suc-le-zero, arith}
+use Rattle.std.proofs.Common.{◌≡◌, ℕ, zero, suc, ◌+◌, ◌-◌, ◌*◌, ◌<◌, ◌≤◌, List, [], ◌∷◌, ltb, length, get_or, take, drop, is_some, Some, None, Option, Ok, Err, Result, Bor, sym, refl, ap, ◌∙◌, arith}
 use Rattle.std.specs.List.{slice_get}
 use Rattle.std.specs.Option.{IfSome}
+use Rattle.std.specs.Result.{IsOk, MatchResult}
+use Rattle.std.specs.Str.{IsUtf8, IsValidUpTo, valid_up_to}
+use Rattle.std.specs.declared.str.Utf8Error.{Utf8Error}
 use Rattle.std.proofs.lemmas.List.FromFn.{length-map-range_with_len, get_or-map-range_with_len}
-use Rattle.std.proofs.lemmas.List.{get_or_past, get_or-take, get_or-drop, length-take-le, length-take, drop-take, take-take}
+use Rattle.std.proofs.lemmas.List.{get_or_past, get_or-take, get_or-drop, length-take-le, length-take, length-drop, drop-take, take-take}
 use Rattle.std.proofs.lemmas.Bool.{true≢false, ltb-true, ltb-false}
 use Rattle.std.proofs.lemmas.Option.{slice_get-get_or, slice_get_past}
 use Rattle.lineformat.specs.declared.Numbers.{Numbers}
 use Rattle.lineformat.specs.declared.PlaceRecord.{PlaceRecord}
-use Rattle.lineformat.specs.Limits.{most_places, trailer_size}
-use Rattle.lineformat.specs.Format.{Line, place_of, no_place, two_at, four_at, place_at, move_at, records_at, line_of, numbers_of, numbers_in, places_in, moves_in, places_from, moves_from}
+use Rattle.lineformat.specs.Limits.{record_size}
+use Rattle.lineformat.specs.Format.{Line, place_of, no_place, two_at, place_at, move_at, records_at, line_of, numbers_of, trailer, numbers_in, places_in, moves_in, places_from, moves_from}
 use Rattle.lineformat.specs.WellFormed.{moves_before, moves_of, name_at}
 
 -- the number at an offset, by the bytes from there on
@@ -22,27 +25,19 @@ two_is bs o =
     let b = get_or-drop o bs 1 0 in
     cc
 
-pub four_is : (bs : List ℕ) (o : ℕ) → four_at bs o ≡ get_or bs o 0 + get_or bs (o + 1) 0 * 256 + get_or bs (o + 2) 0 * 65536 + get_or bs (o + 3) 0 * 16777216
-four_is bs o =
-    let a = one_on bs o in
-    let b = get_or-drop o bs 1 0 in
-    let c = get_or-drop o bs 2 0 in
-    let d = get_or-drop o bs 3 0 in
-    cc
-
 pub count_places : (bs : List ℕ) → length (line_of bs).places ≡ places_in bs
 unfolding line_of
-count_places bs = length-map-range_with_len (λ i. place_at bs (places_from bs + i * 4)) 0 (places_in bs)
+count_places bs = length-map-range_with_len (λ i. place_at bs (places_from (trailer bs) bs + i * record_size)) 0 (places_in bs)
 
 pub count_moves : (bs : List ℕ) → length (line_of bs).moves ≡ moves_in bs
 unfolding line_of
-count_moves bs = length-map-range_with_len (λ i. move_at bs (moves_from bs + i * 4)) 0 (moves_in bs)
+count_moves bs = length-map-range_with_len (λ i. move_at bs (moves_from (trailer bs) bs + i * record_size)) 0 (moves_in bs)
 
-pub count_names : (bs : List ℕ) → length (line_of bs).names ≡ moves_from bs
+pub count_names : (bs : List ℕ) → length (line_of bs).names ≡ moves_from (trailer bs) bs
 unfolding line_of
-count_names bs = length-take-le (moves_from bs) bs (omega arith)
+count_names bs = length-take-le (moves_from (trailer bs) bs) bs (omega arith)
 
-pub names_are : (bs : List ℕ) → (line_of bs).names ≡ take (moves_from bs) bs
+pub names_are : (bs : List ℕ) → (line_of bs).names ≡ take (moves_from (trailer bs) bs) bs
 unfolding line_of
 names_are bs = refl
 
@@ -50,25 +45,16 @@ names_are bs = refl
 pub in_names : (bs : List ℕ) (o k : ℕ) → o + k ≤ length (line_of bs).names → take k (drop o (line_of bs).names) ≡ take k (drop o bs)
 unfolding line_of
 in_names bs o k h =
-    let B : ℕ = moves_from bs in
+    let B : ℕ = moves_from (trailer bs) bs in
     let c : length (take B bs) ≡ B = count_names bs in
     let e : B ≡ o + (B - o) = omega arith in
     ap (λ x. take k (drop o (take x bs))) e ∙ ap (take k) (drop-take o (B - o) bs) ∙ take-take k (B - o) (drop o bs) (omega arith)
 
-nth_take : {X : Type 0} (k m : ℕ) (xs : List X) → m < k → slice_get (take k xs) m ≡ slice_get xs m
-nth_take zero m xs h = absurd (not-suc-le-zero h)
-nth_take (suc k) m [] h = refl
-nth_take (suc k) zero (x ∷ xs) h = refl
-nth_take (suc k) (suc m) (x ∷ xs) h = nth_take k m xs (le_of_suc-le-suc h)
-
-nth_drop : {X : Type 0} (o m : ℕ) (xs : List X) → slice_get (drop o xs) m ≡ slice_get xs (o + m)
-nth_drop zero m xs = ap (slice_get xs) (let z : m ≡ 0 + m = omega arith in z)
-nth_drop (suc o) m [] = refl
-nth_drop (suc o) m (x ∷ xs) = nth_drop o m xs ∙ ap (slice_get (x ∷ xs)) (let z : suc (o + m) ≡ suc o + m = omega arith in z)
-
 -- one of a part of a list
-pub nth_part : {X : Type 0} (xs : List X) (o k m : ℕ) → m < k → slice_get (take k (drop o xs)) m ≡ slice_get xs (o + m)
-nth_part xs o k m h = nth_take k m (drop o xs) h ∙ nth_drop o m xs
+pub nth_part : {X : Type 0} (xs : List X) (o k m : ℕ) (d : X) → m < k → o + k ≤ length xs → slice_get (take k (drop o xs)) m ≡ slice_get xs (o + m)
+nth_part xs o k m d h l =
+    let long : length (take k (drop o xs)) ≡ k = length-take-le k (drop o xs) (simp length-drop (omega arith)) in
+    slice_get-get_or (take k (drop o xs)) m d (omega arith) ∙ ap Some (get_or-take k (drop o xs) m d h ∙ get_or-drop o xs m d) ∙ sym (slice_get-get_or xs (o + m) d (omega arith))
 
 pub nth_part_past : {X : Type 0} (xs : List X) (o k m : ℕ) → k ≤ m → slice_get (take k (drop o xs)) m ≡ None
 nth_part_past xs o k m h = slice_get_past (take k (drop o xs)) m (simp length-take (omega arith))
@@ -83,27 +69,27 @@ numbers_are bs =
 -- one letter of the names
 pub one_letter : (bs : List ℕ) (i : ℕ) → i < length (line_of bs).names → get_or (line_of bs).names i 0 ≡ get_or bs i 0
 unfolding line_of
-one_letter bs i h = get_or-take (moves_from bs) bs i 0 (let n = count_names bs in omega arith)
+one_letter bs i h = get_or-take (moves_from (trailer bs) bs) bs i 0 (let n = count_names bs in omega arith)
 
 -- the records of the line are those that the file has from where they begin
-pub places_spelt : (bs : List ℕ) → (line_of bs).places ≡ records_at place_at bs (places_from bs) (length (line_of bs).places)
+pub places_spelt : (bs : List ℕ) → (line_of bs).places ≡ records_at place_at bs (places_from (trailer bs) bs) (length (line_of bs).places)
 unfolding line_of
-places_spelt bs = ap (records_at place_at bs (places_from bs)) (sym (count_places bs))
+places_spelt bs = ap (records_at place_at bs (places_from (trailer bs) bs)) (sym (count_places bs))
 
-pub moves_spelt : (bs : List ℕ) → (line_of bs).moves ≡ records_at move_at bs (moves_from bs) (length (line_of bs).moves)
+pub moves_spelt : (bs : List ℕ) → (line_of bs).moves ≡ records_at move_at bs (moves_from (trailer bs) bs) (length (line_of bs).moves)
 unfolding line_of
-moves_spelt bs = ap (records_at move_at bs (moves_from bs)) (sym (count_moves bs))
+moves_spelt bs = ap (records_at move_at bs (moves_from (trailer bs) bs)) (sym (count_moves bs))
 
 -- one of the records from an offset on
-pub one_record : {R : Type 0} (at : List ℕ → ℕ → R) (bs : List ℕ) (from n i : ℕ) (xs : List R) → xs ≡ records_at at bs from n → i < n → slice_get xs i ≡ Some (at bs (from + i * 4))
+pub one_record : {R : Type 0} (at : List ℕ → ℕ → R) (bs : List ℕ) (from n i : ℕ) (xs : List R) → xs ≡ records_at at bs from n → i < n → slice_get xs i ≡ Some (at bs (from + i * record_size))
 one_record at bs from n i xs e h =
-    let f = λ (k : ℕ). at bs (from + k * 4) in
+    let f = λ (k : ℕ). at bs (from + k * record_size) in
     let l = length-map-range_with_len f 0 n in
     ap (λ ys. slice_get ys i) e ∙ slice_get-get_or (records_at at bs from n) i (f i) (omega arith) ∙ ap Some (get_or-map-range_with_len f 0 n i i (f i) h (omega arith))
 
 -- what was read, by what is known of it: the record of a number, or nothing where there is no such record
 pub read_record : {R : Type 0} {P : R → Type 0} (at : List ℕ → ℕ → R) (bs : List ℕ) (from n i : ℕ) (xs : List R) → xs ≡ records_at at bs from n → n ≡ length xs
-    → ((r : R) → P r → r ≡ at bs (from + i * 4)) → (o : Option R) → is_some o ≡ ltb i n → IfSome o P → o ≡ slice_get xs i
+    → ((r : R) → P r → r ≡ at bs (from + i * record_size)) → (o : Option R) → is_some o ≡ ltb i n → IfSome o P → o ≡ slice_get xs i
 read_record at bs from n i xs e k h None b q = sym (slice_get_past xs i (let l = ltb-false i n (sym b) in omega arith))
 read_record at bs from n i xs e k h (Some r) b q = ap Some (h r q) ∙ sym (one_record at bs from n i xs e (ltb-true i n (sym b)))
 
@@ -119,24 +105,19 @@ absent [] i e = omega arith
 absent (x ∷ xs) zero e = absurd (true≢false (ap is_some e))
 absent (x ∷ xs) (suc i) e = let h = absent xs i e in omega arith
 
--- the numbers of a file with a sound trailer, and where its places and its moves begin
-pub record PartsOf (bs : List ℕ) (numbers : Numbers) (first names : ℕ) : Type 0 where
-  pub numbers_are : numbers ≡ numbers_of (line_of bs)
-  pub count_places : numbers.places ≡ length (line_of bs).places
-  pub count_moves : numbers.moves ≡ length (line_of bs).moves
-  pub count_names : names ≡ length (line_of bs).names
-  pub first_is : first ≡ places_from bs
-  pub names_end : names ≡ moves_from bs
-  pub few_places : numbers.places ≤ most_places
-  pub moves_end : names + numbers.moves * 4 ≡ first
-  pub places_end : first + numbers.places * 4 + trailer_size ≡ length bs
+-- bytes that are text are taken as text
+pub is_ok_text : (bs : List ℕ) → IsUtf8 bs → (r : Result (Bor (List ℕ)) Utf8Error)
+    → MatchResult r (λ s. (s.now ≡ bs) × IsUtf8 bs) (λ e. (IsUtf8 bs → ⊥) × IsValidUpTo bs (valid_up_to e)) → IsOk r
+is_ok_text bs u (Ok s) m = refl
+is_ok_text bs u (Err e) m = absurd (m.0 u)
 
 -- the bytes of the built-in line
 abbrev pub built_in_file : List ℕ
 built_in_file = 0 ∷ 0 ∷ 0 ∷ 0 ∷ 0 ∷ 0 ∷ 1 ∷ 0 ∷ 1 ∷ 0 ∷ 1 ∷ 0 ∷ 0 ∷ 0 ∷ 0 ∷ 0 ∷ 0 ∷ 0 ∷ 0 ∷ 1 ∷ 8 ∷ 0 ∷ 0 ∷ 0 ∷ []
 
--- the name of a place is the part of the file from an offset to an end
+-- the name of a place is the part of the file from an offset to an end, and text
 pub record NameIn (l : Line) (file : List ℕ) (p offset end : ℕ) : Type 0 where
   pub name_is : name_at l p ≡ Some (take (end - offset) (drop offset file), offset)
+  pub is_text : IsUtf8 (take (end - offset) (drop offset file))
   pub rising : offset ≤ end
   pub inside : end ≤ length file

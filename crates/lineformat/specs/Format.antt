@@ -8,10 +8,11 @@ use Rattle.lineformat.specs.declared.Kind.TheVariants.{Lip}
 use Rattle.lineformat.specs.declared.MoveRecord.{MoveRecord}
 use Rattle.lineformat.specs.declared.Numbers.{Numbers}
 use Rattle.lineformat.specs.declared.PlaceRecord.{PlaceRecord}
+use Rattle.lineformat.specs.declared.Spots.{Spots}
 use Rattle.lineformat.specs.Kinds.{kind_number}
-use Rattle.lineformat.specs.Limits.{trailer_size, only_version}
+use Rattle.lineformat.specs.Limits.{trailer_size, record_size, only_version}
 
--- a line: its places, the moves of all places in place order, the bytes of all names in place order, and its vessel by its numbers
+-- a line: its places, the moves and the letters of all of them one after another, and its vessel by its numbers
 pub record Line : Type 0 where
   pub places : List PlaceRecord
   pub moves : List MoveRecord
@@ -48,19 +49,23 @@ built_in =
       draw = 0;
     }
 
--- the 4 bytes of a move: its target, then its amount as a signed number of 16 bits
+-- the bytes of a move: the place that it leads to, then its litres in two's complement
 abbrev pub move_bytes : MoveRecord → List ℕ
 move_bytes m = to_le_bytes w16 m.target ++ to_le_bytes w16 (cast_unsigned w16 m.amount)
 
--- the 4 bytes of a place: its owner, the length of its name, the number of its moves
+-- the bytes of a place: a byte for whose it is, one for how long its name is, and two that count its moves
 abbrev pub place_bytes : PlaceRecord → List ℕ
 place_bytes p = p.owner ∷ p.letters ∷ to_le_bytes w16 p.moves
 
--- the 16 bytes of a trailer: places, moves, top, draw, kind, version, and how far back from the trailer the moves begin
+-- how many bytes the records of a line take
+abbrev pub record_bytes : Numbers → ℕ
+record_bytes n = record_size * (n.moves + n.places)
+
+-- the bytes of a trailer: the five numbers of a line, the version, and how many bytes its records take
 abbrev pub trailer_bytes : Numbers → List ℕ
 trailer_bytes n =
     to_le_bytes w16 n.places ++ (to_le_bytes w16 n.moves ++ (to_le_bytes w32 n.top ++ (to_le_bytes w16 n.draw
-    ++ (n.kind ∷ only_version ∷ to_le_bytes w32 (4 * (n.moves + n.places))))))
+    ++ (n.kind ∷ only_version ∷ to_le_bytes w32 (record_bytes n)))))
 
 -- the five numbers of a line that its file's trailer has
 abbrev pub numbers_of : Line → Numbers
@@ -91,7 +96,7 @@ abbrev pub trailer : List ℕ → ℕ
 trailer bs = length bs - trailer_size
 
 -- the offset of each of the five numbers in the trailer of a file
-abbrev pub offsets_in : List ℕ → Numbers
+abbrev pub offsets_in : List ℕ → Spots
 offsets_in bs =
     record { places = trailer bs; moves = trailer bs + 2; top = trailer bs + 4; draw = trailer bs + 8; kind = trailer bs + 10 }
 
@@ -99,20 +104,28 @@ offsets_in bs =
 abbrev pub numbers_in : List ℕ → Numbers
 numbers_in bs =
     record {
-      places = two_at bs (trailer bs);
-      moves = two_at bs (trailer bs + 2);
-      top = four_at bs (trailer bs + 4);
-      draw = two_at bs (trailer bs + 8);
-      kind = slice_index bs (trailer bs + 10);
+      places = two_at bs (offsets_in bs).places;
+      moves = two_at bs (offsets_in bs).moves;
+      top = four_at bs (offsets_in bs).top;
+      draw = two_at bs (offsets_in bs).draw;
+      kind = slice_index bs (offsets_in bs).kind;
     }
 
--- the version in the trailer of a file
-abbrev pub version_in : List ℕ → ℕ
-version_in bs = slice_index bs (trailer bs + 11)
+-- the offset of the version of a file
+abbrev pub version_offset : List ℕ → ℕ
+version_offset bs = trailer bs + 11
 
--- how far back from the trailer the moves begin, as the trailer of a file says it
+-- the version that a file says it is of
+abbrev pub version_in : List ℕ → ℕ
+version_in bs = slice_index bs (version_offset bs)
+
+-- the offset of the distance of a file
+abbrev pub distance_offset : List ℕ → ℕ
+distance_offset bs = trailer bs + 12
+
+-- how many bytes the records take, as the trailer of a file says it
 abbrev pub distance_in : List ℕ → ℕ
-distance_in bs = four_at bs (trailer bs + 12)
+distance_in bs = four_at bs (distance_offset bs)
 
 -- how many places a file has, as its trailer says it
 abbrev pub places_in : List ℕ → ℕ
@@ -122,26 +135,30 @@ places_in bs = (numbers_in bs).places
 abbrev pub moves_in : List ℕ → ℕ
 moves_in bs = (numbers_in bs).moves
 
--- the offset at which the places of a file begin, by the numbers in its trailer
-abbrev pub places_from : List ℕ → ℕ
-places_from bs = trailer bs - 4 * places_in bs
+-- the offset at which the places of a file begin, by the offset at which they end
+abbrev pub places_from : ℕ → List ℕ → ℕ
+places_from end bs = end - record_size * places_in bs
 
--- the offset at which the moves of a file begin and its names end, by the numbers in its trailer
-abbrev pub moves_from : List ℕ → ℕ
-moves_from bs = trailer bs - 4 * (moves_in bs + places_in bs)
+-- the offset at which the moves of a file begin and its names end, by the offset at which its places end
+abbrev pub moves_from : ℕ → List ℕ → ℕ
+moves_from end bs = end - record_bytes (numbers_in bs)
 
--- the n records of 4 bytes from an offset on, by what stands at each
+-- the n records from an offset on, by what stands at each
 abbrev pub records_at : {R : Type 0} → (List ℕ → ℕ → R) → List ℕ → ℕ → ℕ → List R
-records_at at bs o n = map (λ i. at bs (o + i * 4)) (range_with_len 0 n)
+records_at at bs o n = map (λ i. at bs (o + i * record_size)) (range_with_len 0 n)
 
--- the line that the bytes of a file spell
-unfoldable pub line_of : List ℕ → Line
-line_of bs =
+-- the line that the bytes of a file spell whose places end at an offset
+abbrev pub line_before : ℕ → List ℕ → Line
+line_before end bs =
     record {
-      places = records_at place_at bs (places_from bs) (places_in bs);
-      moves = records_at move_at bs (moves_from bs) (moves_in bs);
-      names = take (moves_from bs) bs;
+      places = records_at place_at bs (places_from end bs) (places_in bs);
+      moves = records_at move_at bs (moves_from end bs) (moves_in bs);
+      names = take (moves_from end bs) bs;
       kind = (numbers_in bs).kind;
       top = (numbers_in bs).top;
       draw = (numbers_in bs).draw;
     }
+
+-- the line that the bytes of a file spell: its places end where its trailer begins
+unfoldable pub line_of : List ℕ → Line
+line_of bs = line_before (trailer bs) bs

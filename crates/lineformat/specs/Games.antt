@@ -1,4 +1,4 @@
--- The game of a line, and the table of its vessel.
+-- The game of a line, and the hopper of its vessel.
 use Rattle.std.specs.Prelude.{ℕ, cond, map, length, ◌==◌}
 use Rattle.std.specs.List.{slice_get}
 use Rattle.std.specs.Option.{option_map}
@@ -7,7 +7,7 @@ use Rattle.game.specs.declared.Owner.{Owner}
 use Rattle.game.specs.declared.Owner.TheVariants.{Ours, Theirs}
 use Rattle.game.specs.Game.{Game, Place}
 use Rattle.game.specs.Owners.{owner_number}
-use Rattle.game.specs.Vessel.{Table, lip, closed, drawn}
+use Rattle.game.specs.Vessel.{Hopper, lip, closed, drawn}
 use Rattle.lineformat.specs.declared.Kind.TheVariants.{Lip, Closed}
 use Rattle.lineformat.specs.declared.MoveRecord.{MoveRecord}
 use Rattle.lineformat.specs.declared.PlaceRecord.{PlaceRecord}
@@ -31,8 +31,8 @@ place_from l p r = record { owner = owner_from r.owner; moves = map edge_from (m
 abbrev pub game_of : Line → Game
 game_of l = record { places = length l.places; at = λ p. option_map (place_from l p) (slice_get l.places p) }
 
--- the table of the vessel of a line, by its kind; a sound line has the number of one of the three kinds
-abbrev pub table_of : Line → Table
-table_of l =
+-- what the vessel of a line means, by its kind; a sound line has the number of one of the three kinds
+abbrev pub hopper_of : Line → Hopper
+hopper_of l =
     cond (l.kind == kind_number Lip) (lip l.top)
     (cond (l.kind == kind_number Closed) (closed l.top) (drawn l.top l.draw))

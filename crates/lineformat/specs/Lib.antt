@@ -1,4 +1,3 @@
--- The definitions of this crate.
 pub mod Kinds
 pub mod Limits
 pub mod Format
@@ -6,3 +5,4 @@ pub mod WellFormed
 pub mod Games
 pub mod Checks
 pub mod Laws
+pub mod Inner

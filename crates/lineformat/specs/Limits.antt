@@ -1,17 +1,17 @@
 -- The limits of a line file. They are its own: they stay as they are when those of boards and vessels, in `game/specs/Limits`, widen.
-use Rattle.std.specs.Prelude.{ℕ}
+use Rattle.std.specs.Prelude.{ℕ, ◌+◌, ◌*◌}
 use Rattle.game.specs.declared.Owner.TheVariants.{Theirs}
 use Rattle.game.specs.Owners.{owner_number}
 use Rattle.lineformat.specs.declared.Kind.TheVariants.{Drawn}
 use Rattle.lineformat.specs.Kinds.{kind_number}
 
--- the bytes of the longest line file
-abbrev pub longest_file : ℕ
-longest_file = 25616
-
 -- the bytes of the trailer that ends a line file
 abbrev pub trailer_size : ℕ
 trailer_size = 16
+
+-- the bytes of a record of a place or of a move
+abbrev pub record_size : ℕ
+record_size = 4
 
 -- the one version of a line file
 abbrev pub only_version : ℕ
@@ -60,3 +60,11 @@ first_letter = 32
 -- the highest byte that a name may have, which is the last printable one
 abbrev pub last_letter : ℕ
 last_letter = 126
+
+-- the most bytes that the names of a line file take
+abbrev pub longest_names : ℕ
+longest_names = most_places * longest_name
+
+-- the bytes of the longest line file
+abbrev pub longest_file : ℕ
+longest_file = longest_names + record_size * (most_moves + most_places) + trailer_size

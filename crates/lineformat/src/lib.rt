@@ -5,12 +5,11 @@ ghost use Rattle.std.specs.Prelude.{◌≡◌};
 ghost use Rattle.lineformat.specs.Kinds.{kind_number, NamesKind};
 
 use game::Owner;
-use hopper::limits;
 
-// The limits of a line file: its bytes, its trailer and the one version;
-pub const LONGEST_FILE: usize = 25_616;
-
+// The limits of a line file are its own, whatever those of boards and vessels are. Its trailer, its records and its one version;
 pub const TRAILER_SIZE: usize = 16;
+
+pub const RECORD_SIZE: usize = 4;
 
 pub const ONLY_VERSION: u8 = 1;
 // its kinds, of which the last has a draw (kept as it is: a number in a file is refused before it names a kind);
@@ -22,10 +21,10 @@ pub const MOST_PLACES: u64 = 256;
 
 pub const MOST_MOVES: u64 = 4_096;
 
-pub const MOST_TOP: u64 = limits::MOST_TOP as u64;
+pub const MOST_TOP: u64 = 2_560_000;
 
-pub const MOST_DRAW: u64 = limits::MOST_DRAW as u64;
-// and its records: an owner (kept as it is: for the same reason), a name's length and letters, and a move's litres in or out.
+pub const MOST_DRAW: u64 = 10_000;
+// its records: an owner (kept as it is: a number in a record is refused before it names one), a name's length and letters, a move's litres in or out;
 pub const LAST_OWNER: u8 = Owner::Theirs as u8;
 
 pub const LONGEST_NAME: u8 = 32;
@@ -34,7 +33,13 @@ pub const FIRST_LETTER: u8 = 32;
 
 pub const LAST_LETTER: u8 = 126;
 
-pub const MOST_AMOUNT: u16 = limits::MOST_AMOUNT as u16;
+pub const MOST_AMOUNT: u16 = 10_000;
+// and the most bytes of all names and of all.
+pub const LONGEST_NAMES: usize = MOST_PLACES as usize * LONGEST_NAME as usize;
+
+pub const LONGEST_FILE: usize = LONGEST_NAMES
+    + RECORD_SIZE * (MOST_MOVES as usize + MOST_PLACES as usize)
+    + TRAILER_SIZE;
 
 // The kind of vessel that a line file names.
 #[derive(Clone, Copy, PartialEq, Eq, Debug)]
@@ -64,7 +69,7 @@ pub struct MoveRecord {
     pub amount: i16,
 }
 
-// The five numbers of a line that its file's trailer has; or, beside them, the spots at which a refusal of each is reported.
+// The five numbers of a line that its file's trailer has.
 #[derive(Clone, Copy, PartialEq, Eq, Debug)]
 pub struct Numbers {
     pub places: u64,
@@ -72,6 +77,16 @@ pub struct Numbers {
     pub top: u64,
     pub draw: u64,
     // kept as it is: the number in a file may be of no kind, and reading refuses it
+    pub kind: u64,
+}
+
+// The spots at which a refusal of each of these numbers is reported.
+#[derive(Clone, Copy, PartialEq, Eq, Debug)]
+pub struct Spots {
+    pub places: u64,
+    pub moves: u64,
+    pub top: u64,
+    pub draw: u64,
     pub kind: u64,
 }
 

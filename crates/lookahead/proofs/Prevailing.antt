@@ -7,7 +7,7 @@ use Rattle.game.proofs.Force.{held_has_plan, not_held_is_forced}
 use Rattle.hopper.specs.Refusing.{verdict}
 use Rattle.hopper.proofs.Refusing.{none_fails, untrue}
 use Rattle.lineformat.specs.Format.{Line}
-use Rattle.lineformat.specs.Games.{game_of, table_of}
+use Rattle.lineformat.specs.Games.{game_of, hopper_of}
 use Rattle.lookahead.specs.Ahead.{look_checks, TellsWhoPrevails}
 
 -- a question that passes the checks is about a place of the line
@@ -18,7 +18,7 @@ passed_place l place fill k e =
 
 -- a fill that holds has a plan, one that does not has a reply
 pub tells_who_prevails : (l : Line) → WellFormed (game_of l) → (place fill k : ℕ) → Ok tt ≡ verdict (look_checks l place fill k)
-    → (held : Bool) → Decides held (Holds (game_of l) (table_of l) k place fill) → TellsWhoPrevails l place fill k held
-tells_who_prevails l wf place fill k ok true d = held_has_plan (game_of l) wf (table_of l) k place fill (d.0 refl)
+    → (held : Bool) → Decides held (Holds (game_of l) (hopper_of l).table k place fill) → TellsWhoPrevails l place fill k held
+tells_who_prevails l wf place fill k ok true d = held_has_plan (game_of l) wf (hopper_of l).table k place fill (d.0 refl)
 tells_who_prevails l wf place fill k ok false d =
-    not_held_is_forced (game_of l) wf (table_of l) k place fill (passed_place l place fill k ok) (λ h. false≢true (d.1 h))
+    not_held_is_forced (game_of l) wf (hopper_of l).table k place fill (passed_place l place fill k ok) (λ h. false≢true (d.1 h))

@@ -13,15 +13,14 @@ use Rattle.game.specs.declared.Owner.TheVariants.{Ours, Theirs}
 use Rattle.game.specs.Game.{Place, Game, WellFormed}
 use Rattle.game.specs.Fill.{Choice, Step, Holds}
 use Rattle.game.proofs.Base.{none_some, some_inj, holds_le, holds_dec}
-use Rattle.game.specs.Rows.{need_lip}
-use Rattle.game.proofs.RowMaking.{need_drawn}
+use Rattle.game.specs.Rows.{need_lip, need_drawn}
 use Rattle.game.specs.Vessel.{lip, drawn}
 use Rattle.game.proofs.Rows.{holds_up}
 use Rattle.game.proofs.Vessels.{vessels_keep_rules}
-use Rattle.hopper.specs.Any.{any_top, any_table}
+use Rattle.hopper.specs.Any.{any_hopper}
 use Rattle.hopper.specs.declared.any.AnyVessel.{AnyVessel}
 use Rattle.hopper.specs.declared.any.AnyVessel.TheVariants.{OfLip, OfClosed, OfDrawn}
-use Rattle.hopper.specs.Boards.{owner_at, step_at, count_at}
+use Rattle.hopper.specs.Boards.{owner_at, is_owner, step_at, count_at}
 use Rattle.hopper.proofs.Boards.{owned, step_at_lem, step_place, step_there, step_below}
 use Rattle.lineformat.specs.Limits.{most_places}
 use Rattle.lineformat.proofs.Formed.{file_formed}
@@ -30,9 +29,8 @@ use Rattle.linefile.specs.Held.{file_of}
 use Rattle.lookahead.specs.declared.Outlook.{Outlook}
 use Rattle.lookahead.specs.declared.Question.{Question}
 use Rattle.lookahead.specs.declared.Remembered.{Remembered}
-use Rattle.lookahead.specs.Ordered.{is_ordered}
-use Rattle.lookahead.specs.Remembering.{game_in, top_in, table_in, HoldsIn, Held, HoldsHigher, Settles}
-use Rattle.lookahead.specs.Asking.{we_choose, Leads, Refused, SomeLeads, LeadsOn}
+use Rattle.lookahead.specs.Inner.Remembering.{is_ordered, game_in, hopper_in, HoldsIn, Held, HoldsHigher, Settles}
+use Rattle.lookahead.specs.Inner.Asking.{IsNext, Refused, SomeLeads, LeadsOn}
 
 -- a test that answers true decides what holds, one that answers false what does not
 pub decides_yes : {P : Type 0} (b : Bool) → b ≡ true → P → Decides b P
@@ -62,13 +60,13 @@ formed o = file_formed (file_of o.line.now) o.line.now.accepted
 
 -- and has no more places than a line may have
 pub few_places : (o : Outlook) → (game_in o).places ≤ most_places
-few_places o = (accepted_line (file_of o.line.now) o.line.now.accepted).numbers.few_places
+few_places o = (accepted_line (file_of o.line.now) o.line.now.accepted).numbers.few_places.1
 
 -- what holds for more moves holds for fewer
 fewer : (o : Outlook) (i k p c : ℕ) → i ≤ k → HoldsIn o k p c → HoldsIn o i p c
 fewer o i k p c le h =
     let e : k ≡ (k - i) + i = omega arith in
-    holds_le (game_in o) (table_in o) (k - i) i p c (subst (λ (n : ℕ). HoldsIn o n p c) e h)
+    holds_le (game_in o) (hopper_in o).table (k - i) i p c (subst (λ (n : ℕ). HoldsIn o n p c) e h)
 
 -- over an ordered vessel a higher fill up to the top holds wherever a lower one does
 pub holds_higher : (o : Outlook) (c d : ℕ) → is_ordered o.vessel ≡ true → c ≤ d → HoldsHigher o c d
@@ -77,17 +75,17 @@ holds_higher o c d ordered le k p top h = by o.vessel ordered top h
     g : Game
     g = game_in o
 
-    by : (v : AnyVessel) → is_ordered v ≡ true → d ≤ any_top v → Holds g (any_table v) k p c → Holds g (any_table v) k p d
+    by : (v : AnyVessel) → is_ordered v ≡ true → d ≤ (any_hopper v).top → Holds g (any_hopper v).table k p c → Holds g (any_hopper v).table k p d
     by (OfLip v) _ l h =
         let rules = vessels_keep_rules v.top.litres 0 v.top.fits in
-        holds_up g (formed o) v.top.litres (lip v.top.litres) rules.lip_keeps (need_lip v.top.litres) rules.lip_graded k p c d (le, l) h
+        holds_up g (formed o) (lip v.top.litres) rules.lip_keeps (need_lip v.top.litres) rules.lip_graded k p c d (le, l) h
     by (OfClosed v) e l h = absurd (true≢false (sym e))
     by (OfDrawn v) _ l h =
         let rules = vessels_keep_rules v.top.litres v.draw v.top.fits in
-        holds_up g (formed o) v.top.litres (drawn v.top.litres v.draw) rules.drawn_keeps (need_drawn v.top.litres v.draw) rules.drawn_graded k p c d (le, l) h
+        holds_up g (formed o) (drawn v.top.litres v.draw) rules.drawn_keeps (need_drawn v.top.litres v.draw) rules.drawn_graded k p c d (le, l) h
 
 -- an answer that held settles what asks for no more at a place where it is no harder
-pub settles_held : (o : Outlook) (a : Remembered) (q : Question) → a.place ≡ q.place → a.held ≡ true → q.moves ≤ a.moves → q.level ≤ top_in o → HoldsHigher o a.level q.level
+pub settles_held : (o : Outlook) (a : Remembered) (q : Question) → a.place ≡ q.place → a.held ≡ true → q.moves ≤ a.moves → q.level ≤ (hopper_in o).top → HoldsHigher o a.level q.level
     → Settles o a q
 settles_held o a q same e le top up right = decides_yes a.held e
     (subst (λ (p : ℕ). HoldsIn o q.moves p q.level) same (up q.moves a.place top (fewer o q.moves a.moves a.place a.level le (right.1.0 e))))
@@ -99,7 +97,7 @@ settles_beaten o a q same e le up right = decides_no a.held e (λ h.
 
 -- whether a fill holds is decided, so an answer that merely is right is right
 pub told : (o : Outlook) (q : Question) (b : Bool) → ∥ Decides b (Held o q) ∥₁ → Decides b (Held o q)
-told o q b merely = by (holds_dec (game_in o) (table_in o) q.moves q.place q.level)
+told o q b merely = by (holds_dec (game_in o) (hopper_in o).table q.moves q.place q.level)
   where
     by : Dec (Held o q) → Decides b (Held o q)
     by (yes h) = decides_yes b (∥∥₁_elim merely (Bool-set _ _) (λ d. d.1 h)) h
@@ -113,14 +111,14 @@ module _ (o : Outlook) (q : Question) (pos : 1 ≤ q.moves) where
   turn_is : q.moves ≡ suc (q.moves - 1)
   turn_is = omega arith
 
-  turn_in : Step (game_in o) (table_in o) Next q.place q.level → Held o q
+  turn_in : Step (game_in o) (hopper_in o).table Next q.place q.level → Held o q
   turn_in s = subst (λ (n : ℕ). HoldsIn o n q.place q.level) (sym turn_is) s
 
-  turn_out : Held o q → Step (game_in o) (table_in o) Next q.place q.level
+  turn_out : Held o q → Step (game_in o) (hopper_in o).table Next q.place q.level
   turn_out h = subst (λ (n : ℕ). HoldsIn o n q.place q.level) turn_is h
 
   abbrev Through : Edge → Type 0
-  Through e = (d : ℕ) × (table_in o q.level e.amount ≡ Some d) × HoldsIn o (q.moves - 1) e.target d
+  Through e = (d : ℕ) × ((hopper_in o).table q.level e.amount ≡ Some d) × HoldsIn o (q.moves - 1) e.target d
 
   -- who chooses at the place, chooses among its moves
   chosen : (own : Owner) → owner_at ((game_in o).at q.place) ≡ Some own → Held o q → (r : Place) × ((game_in o).at q.place ≡ Some r) × Choice own r.moves Through
@@ -152,7 +150,7 @@ module _ (o : Outlook) (q : Question) (pos : 1 ≤ q.moves) where
   every_leads own f = choose Theirs own (λ r at m e h.
       let is = step_at_lem (game_in o) q.place m r e at h in
       let l = f m (step_below ((game_in o).at q.place) m e is) in
-      subst (λ (y : Edge). (d : ℕ) × (table_in o q.level y.amount ≡ Some d) × HoldsIn o (q.moves - 1) y.target d) (some_inj (sym l.1 ∙ is)) (l.2, l.3, l.4))
+      subst (λ (y : Edge). (d : ℕ) × ((hopper_in o).table q.level y.amount ≡ Some d) × HoldsIn o (q.moves - 1) y.target d) (some_inj (sym l.1 ∙ is)) (l.2, l.3, l.4))
 
   -- where they choose, each move of a fill that holds leads on
   pub every_out : owner_at ((game_in o).at q.place) ≡ Some Theirs → Held o q → (m : ℕ) → m < count_at ((game_in o).at q.place) → LeadsOn o q m
@@ -170,7 +168,7 @@ module _ (o : Outlook) (q : Question) (pos : 1 ≤ q.moves) where
 
   -- where we choose a move that leads on settles the question, where they do one that does not
   pub one_settles : (own : Owner) → owner_at ((game_in o).at q.place) ≡ Some own → (m : ℕ) → m < count_at ((game_in o).at q.place)
-      → Decides (we_choose own) (LeadsOn o q m) → Decides (we_choose own) (Held o q)
+      → Decides (is_owner Ours (Some own)) (LeadsOn o q m) → Decides (is_owner Ours (Some own)) (Held o q)
   one_settles Ours is m lt d = decides_yes true refl (some_leads is m (d.0 refl))
   one_settles Theirs is m lt d = decides_no false refl (λ h. false≢true (d.1 (every_out is h m lt)))
 
@@ -179,15 +177,15 @@ module _ (o : Outlook) (q : Question) (pos : 1 ≤ q.moves) where
 pub refused_leads_nowhere : (o : Outlook) (q : Question) (m : ℕ) → Refused o q m → LeadsOn o q m → ⊥
 refused_leads_nowhere o q m r l =
     let same = some_inj (sym r.is ∙ l.1) in
-    none_some (sym r.refused ∙ ap (λ (e : Edge). table_in o q.level e.amount) same ∙ l.3)
+    none_some (sym r.refused ∙ ap (λ (e : Edge). (hopper_in o).table q.level e.amount) same ∙ l.3)
 
 -- a move leads on just where the fill that it leads to holds
-pub leads_on_there : (o : Outlook) (q : Question) (m : ℕ) (n : Question) → Leads o q m n → (b : Bool) → Decides b (Held o n) → Decides b (LeadsOn o q m)
+pub leads_on_there : (o : Outlook) (q : Question) (m : ℕ) (n : Question) → IsNext o q m n → (b : Bool) → Decides b (Held o n) → Decides b (LeadsOn o q m)
 leads_on_there o q m n l b h = Decides-like b
     (λ x. (l.edge, l.is, n.level, l.poured, subst (λ (k : ℕ). HoldsIn o k l.edge.target n.level) l.moves (subst (λ (p : ℕ). HoldsIn o n.moves p n.level) (sym l.to) x)))
     (λ x.
     let same = some_inj (sym x.1 ∙ l.is) in
-    let level = some_inj (sym x.3 ∙ ap (λ (e : Edge). table_in o q.level e.amount) same ∙ l.poured) in
+    let level = some_inj (sym x.3 ∙ ap (λ (e : Edge). (hopper_in o).table q.level e.amount) same ∙ l.poured) in
     subst (λ (d : ℕ). HoldsIn o n.moves n.place d) level
     (subst (λ (p : ℕ). HoldsIn o n.moves p x.2) (ap (λ (e : Edge). e.target) same ∙ l.to)
     (subst (λ (k : ℕ). HoldsIn o k x.0.target x.2) (sym l.moves) x.4)))
@@ -195,7 +193,7 @@ leads_on_there o q m n l b h = Decides-like b
 
 -- a question that some move leads to settles the one that it comes from by the same answer
 pub led_settles : (o : Outlook) (q : Question) → 1 ≤ q.moves → (own : Owner) → owner_at ((game_in o).at q.place) ≡ Some own → (n : Question) → SomeLeads o q n
-    → Decides (we_choose own) (Held o n) → Decides (we_choose own) (Held o q)
+    → Decides (is_owner Ours (Some own)) (Held o n) → Decides (is_owner Ours (Some own)) (Held o q)
 led_settles o q pos own is n led d =
     let l = led.1 in
-    one_settles o q pos own is led.0 (step_below ((game_in o).at q.place) led.0 l.edge l.is) (leads_on_there o q led.0 n l (we_choose own) d)
+    one_settles o q pos own is led.0 (step_below ((game_in o).at q.place) led.0 l.edge l.is) (leads_on_there o q led.0 n l (is_owner Ours (Some own)) d)

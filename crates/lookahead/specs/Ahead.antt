@@ -8,7 +8,7 @@ use Rattle.hopper.specs.declared.Layer.TheVariants.{Rest}
 use Rattle.hopper.specs.declared.Refusal.TheVariants.{NoSuchPlace, FillAboveTop, LookTooFar}
 use Rattle.hopper.specs.Refusing.{Answers}
 use Rattle.lineformat.specs.Format.{Line}
-use Rattle.lineformat.specs.Games.{game_of, table_of}
+use Rattle.lineformat.specs.Games.{game_of, hopper_of}
 
 -- the most moves that are looked ahead
 abbrev pub most_ahead : ℕ
@@ -25,9 +25,9 @@ look_checks l place fill k =
 -- true exactly if the fill holds for k moves on the line and its own vessel, in the sense in which marks say it
 abbrev pub LookAnswers : Line → ℕ → ℕ → ℕ → Result Bool Fault → Type 0
 LookAnswers l place fill k =
-    Answers (look_checks l place fill k) (λ held. Decides held (Holds (game_of l) (table_of l) k place fill)) (Unit {0})
+    Answers (look_checks l place fill k) (λ held. Decides held (Holds (game_of l) (hopper_of l).table k place fill)) (Unit {0})
 
 -- where it is true, a plan of ours keeps the vessel from refusing within k moves against every reply; where it is false, one reply beats every plan within k moves
 abbrev pub TellsWhoPrevails : Line → ℕ → ℕ → ℕ → Bool → Type 0
 TellsWhoPrevails l place fill k held =
-    MatchBool held (WeHold (game_of l) (table_of l) k place fill) (OtherSideForces (game_of l) (table_of l) k place fill)
+    MatchBool held (WeHold (game_of l) (hopper_of l).table k place fill) (OtherSideForces (game_of l) (hopper_of l).table k place fill)

@@ -1,5 +1,3 @@
--- The definitions of this crate.
-pub mod Ordered
-pub mod Remembering
-pub mod Asking
+-- The definitions of this crate: what a look-ahead answers, and apart from it what only the functions within are told by.
 pub mod Ahead
+pub mod Inner

@@ -2,19 +2,22 @@
 ghost use Rattle.std.specs.Prelude.{◌≡◌, ◌<◌, ◌≤◌, ◌⊎◌, true, Some, IfSome, Decides, MatchOption};
 ghost use Rattle.std.specs.List.{All};
 ghost use Rattle.game.specs.declared.Owner.TheVariants.{Ours, Theirs};
-ghost use Rattle.hopper.specs.Boards.{owner_at, count_at};
-ghost use Rattle.lookahead.specs.Remembering.{game_in, OnBoard, Held};
-ghost use Rattle.lookahead.specs.Asking.{we_choose, Leads, Refused, SomeLeads, LeadsOn};
+ghost use Rattle.hopper.specs.Boards.{owner_at, is_owner, count_at};
+ghost use Rattle.lookahead.specs.Inner.Remembering.{game_in, OnBoard, Held};
+ghost use Rattle.lookahead.specs.Inner.Asking.{IsNext, Refused, SomeLeads, LeadsOn};
 
 use super::remembering::is_ordered;
 use super::{Memory, Outlook, Question, Turn};
 use game::Owner;
-use hopper::limits::MOST_AMOUNT;
 use hopper::{AnyVessel, Board, Vessel};
+use lineformat::{MOST_AMOUNT, MOST_PLACES};
+
+// The questions with one for each place that a line can have.
+const FIRSTS_SIZE: usize = MOST_PLACES as usize;
 
 // Whether we choose. Then a move that leads on settles a question, and otherwise one that does not.
 fn we_choose(owner: Owner) -> bool
-    ensures { result ≡ we_choose owner }
+    ensures { result ≡ is_owner Ours (Some owner) }
 {
     owner == Owner::Ours
 }
@@ -37,16 +40,16 @@ impl<'x> Outlook<'x> {
     fn count(&self, place: u32) -> u32
         ensures { result ≡ count_at ((game_in self.now).at place) }
     {
-        Board::moves(self.line, place).unwrap_or(0)
+        self.line.moves(place).unwrap_or(0)
     }
 
     // The question that a move leads to, with one move fewer, or nothing where the vessel refuses it.
     fn lead(&self, turn: Turn, mv: u32) -> Option<Question>
         requires { mv < count_at ((game_in self.now).at turn.question.place) }
-        ensures { MatchOption result (Refused self.now turn.question mv) (λ next. Leads self.now turn.question mv next) }
+        ensures { MatchOption result (Refused self.now turn.question mv) (λ next. IsNext self.now turn.question mv next) }
     {
         let question = turn.question;
-        let edge = Board::step(self.line, question.place, mv).unwrap();
+        let edge = self.line.step(question.place, mv).unwrap();
         let level = self.vessel.pour(question.level, edge.amount)?;
         Some(Question {
             moves: question.moves - 1,
@@ -69,10 +72,10 @@ impl<'x> Outlook<'x> {
 
     // For each place that the moves of the question's place lead to, which question to ask first:
     // that of the highest level where we choose, of the lowest where they do.
-    fn first_questions(&self, turn: Turn, owner: Owner) -> [Option<Question>; 256]
+    fn first_questions(&self, turn: Turn, owner: Owner) -> [Option<Question>; FIRSTS_SIZE]
         ensures { All (λ first. IfSome first (λ next. SomeLeads self.now turn.question next)) result }
     {
-        let mut firsts: [Option<Question>; 256] = [None; 256];
+        let mut firsts: [Option<Question>; FIRSTS_SIZE] = [None; FIRSTS_SIZE];
         // kept as it is: no plainer, a closure for `filter_map` would have to state what `lead` asks and answers
         for mv in 0..self.count(turn.question.place) {
             if let Some(next) = self.lead(turn, mv) {
@@ -90,7 +93,7 @@ impl<'x> Memory<'x> {
     #[cycle(asking)]
     fn is_settled_first(&mut self, turn: Turn, owner: Owner) -> bool
         requires { owner_at ((game_in self.old.outlook).at turn.question.place) ≡ Some owner }
-        ensures answer { result ≡ true → Decides (we_choose owner) (Held self.old.outlook turn.question) }
+        ensures answer { result ≡ true → Decides (is_owner Ours (Some owner)) (Held self.old.outlook turn.question) }
         ensures same { self.new.outlook ≡ self.old.outlook }
     {
         if turn.question.moves < 2 || self.known.is_empty() || !is_ordered(self.outlook.vessel) {
@@ -174,7 +177,7 @@ impl<'x> Memory<'x> {
             return held;
         }
         let turn = Turn { question };
-        let held = match Board::owner(self.outlook.line, question.place).unwrap() {
+        let held = match self.outlook.line.owner(question.place).unwrap() {
             Owner::Ours => self.some_move(turn),
             Owner::Theirs => self.every_move(turn),
         };

@@ -2,7 +2,7 @@
 #![tactic(auto)]
 
 ghost use Rattle.std.specs.Prelude.{◌≤◌};
-ghost use Rattle.lookahead.specs.Remembering.{AllRight};
+ghost use Rattle.lookahead.specs.Inner.Remembering.{AllRight};
 
 use hopper::AnyVessel;
 use linefile::FileLine;

@@ -2,10 +2,10 @@
 ghost use Rattle.std.specs.Prelude.{◌≡◌, ◌<◌, ◌≤◌, Ok, Decides, IfOk};
 ghost use Rattle.game.specs.Fill.{Holds};
 ghost use Rattle.hopper.specs.Refusing.{verdict};
-ghost use Rattle.lineformat.specs.Games.{game_of, table_of};
-ghost use Rattle.linefile.specs.Held.{held};
+ghost use Rattle.lineformat.specs.Games.{game_of, hopper_of};
+ghost use Rattle.linefile.specs.Held.{line_held};
 ghost use Rattle.lookahead.specs.Ahead.{look_checks, LookAnswers, TellsWhoPrevails};
-ghost use Rattle.lookahead.specs.Remembering.{top_in, table_in, OnBoard, Held};
+ghost use Rattle.lookahead.specs.Inner.Remembering.{hopper_in, OnBoard, Held};
 
 use super::remembering::{NOTHING_ASKED, is_ordered};
 use super::{MOST_AHEAD, Memory, Outlook, Question};
@@ -20,11 +20,11 @@ const MOST_SLOTS: u32 = 524_288;
 const MOVE_NUMBERS: usize = MOST_AHEAD as usize + 1;
 
 fn check_question(line: &FileLine, place: u32, fill: u32, k: u32) -> Result<(), Fault>
-    ensures { result ≡ verdict (look_checks (held line.now) place fill k) }
+    ensures { result ≡ verdict (look_checks (line_held line.now) place fill k) }
 {
     pass(&[
         check(
-            place >= Board::places(line),
+            place >= line.places(),
             Refusal::NoSuchPlace,
             Layer::Rest,
             place as u64,
@@ -43,11 +43,11 @@ impl<'x> Outlook<'x> {
     // A line with its vessel, and memory for two answers about each place where the levels are ordered, else for one about each fill, up to a limit.
     fn new(line: &'x FileLine<'x>) -> Outlook<'x>
         ensures line { result.line.now ≡ line.now }
-        ensures top { top_in result ≡ (held line.now).top }
-        ensures table { table_in result ≡ table_of (held line.now) }
+        ensures hopper { hopper_in result ≡ hopper_of (line_held line.now) }
+        ensures top { (hopper_in result).top ≡ (line_held line.now).top }
     {
         let vessel = line.vessel();
-        let places = Board::places(line);
+        let places = line.places();
         let apart = if is_ordered(vessel) {
             2
         } else {
@@ -84,9 +84,9 @@ impl<'x> Memory<'x> {
 
 // The answer to a question that passes the checks.
 fn looked<'x>(heap: Global, line: &'x FileLine<'x>, place: u32, fill: u32, k: u32) -> bool
-    requires { Ok tt ≡ verdict (look_checks (held line.now) place fill k) }
-    ensures holds { Decides result (Holds (game_of (held line.now)) (table_of (held line.now)) k place fill) }
-    ensures prevails { TellsWhoPrevails (held line.now) place fill k result }
+    requires { Ok tt ≡ verdict (look_checks (line_held line.now) place fill k) }
+    ensures holds { Decides result (Holds (game_of (line_held line.now)) (hopper_of (line_held line.now)).table k place fill) }
+    ensures prevails { TellsWhoPrevails (line_held line.now) place fill k result }
 {
     Memory::new(heap, Outlook::new(line)).holds(Question {
         moves: k as u8,
@@ -103,8 +103,8 @@ pub fn look_ahead(
     fill: u32,
     k: u32,
 ) -> Result<bool, Fault>
-    ensures answer { LookAnswers (held line.now) place fill k result }
-    ensures prevails { IfOk result (TellsWhoPrevails (held line.now) place fill k) }
+    ensures answer { LookAnswers (line_held line.now) place fill k result }
+    ensures prevails { IfOk result (TellsWhoPrevails (line_held line.now) place fill k) }
 {
     check_question(line, place, fill, k)?;
     Ok(looked(heap, line, place, fill, k))

@@ -1,7 +1,6 @@
 // Answers that are remembered, so that no question has to be asked again.
 ghost use Rattle.std.specs.Prelude.{◌≡◌, ◌≤◌, true, IfSome, Decides};
-ghost use Rattle.lookahead.specs.Ordered.{is_ordered};
-ghost use Rattle.lookahead.specs.Remembering.{top_in, Held, HoldsHigher, Right, Settles, AllRight};
+ghost use Rattle.lookahead.specs.Inner.Remembering.{is_ordered, hopper_in, Held, HoldsHigher, Right, Settles, AllRight};
 
 use super::{Memory, Outlook, Question, Remembered};
 use hopper::AnyVessel;
@@ -35,7 +34,7 @@ impl<'x> Outlook<'x> {
 
     // Whether an answer settles a question too: at the same place, for no more moves if it held and no fewer if it did not.
     fn settles(&self, known: Remembered, question: Question) -> bool
-        requires { question.level ≤ top_in self.now }
+        requires { question.level ≤ (hopper_in self.now).top }
         ensures { result ≡ true → Settles self.now known question }
     {
         if known.place != question.place {
@@ -66,7 +65,7 @@ impl<'x> Memory<'x> {
     // kept as it is: no plainer, the level of a question is in range of the memory that is asked, so its struct would hold that memory.
     // What the slot of a question and an answer says of the question.
     fn read_slot(&self, question: Question, held: bool) -> Option<bool>
-        requires { question.level ≤ top_in self.now.outlook }
+        requires { question.level ≤ (hopper_in self.now.outlook).top }
         ensures { IfSome result (λ b. Decides b (Held self.now.outlook question)) }
     {
         let known = *self.known.get(self.outlook.slot(question, held))?;
@@ -75,7 +74,7 @@ impl<'x> Memory<'x> {
 
     // What is remembered of a question.
     pub(crate) fn recall(&self, question: Question) -> Option<bool>
-        requires { question.level ≤ top_in self.now.outlook }
+        requires { question.level ≤ (hopper_in self.now.outlook).top }
         ensures { IfSome result (λ b. Decides b (Held self.now.outlook question)) }
     {
         // kept as it is: tried, `or` reads both slots and took 40 % longer over closed lines, and a closure for `or_else` is not proved without this contract once more
@@ -87,7 +86,7 @@ impl<'x> Memory<'x> {
 
     // Remembers an answer, where there is room for it.
     pub(crate) fn remember(&mut self, question: Question, held: bool)
-        requires level { question.level ≤ top_in self.old.outlook }
+        requires level { question.level ≤ (hopper_in self.old.outlook).top }
         requires answer { Decides held (Held self.old.outlook question) }
         ensures { self.new.outlook ≡ self.old.outlook }
     {

@@ -3,7 +3,7 @@ ghost use Rattle.std.specs.Prelude.{◌≡◌};
 ghost use Rattle.hopper.specs.Refusing.{verdict};
 ghost use Rattle.lineformat.specs.Checks.{read_checks};
 ghost use Rattle.lineformat.specs.Laws.{AcceptsJustTheWritten};
-ghost use Rattle.panel.specs.Told.{fault_numbers, Writes};
+ghost use Rattle.panel.specs.Told.{answer_numbers, Writes};
 ghost use Rattle.panel.specs.Lines.{FileCounted};
 
 use super::numbers::{FaultNumbers, tell, told};
@@ -24,13 +24,13 @@ fn count_file(file: &[u8]) -> Result<(u32, u64), Fault>
     ensures { FileCounted file.now result }
 {
     let line = FileLine::try_from(file)?;
-    Ok((Board::places(&line), fills(&line, &line.vessel()) + 1))
+    Ok((line.places(), fills(&line, &line.vessel()) + 1))
 }
 
 #[unsafe(no_mangle)]
 #[tactic(auto, using(lineformat::proofs::Laws::file_law))]
 pub extern "C" fn hopper_check(file: &[u8]) -> FaultNumbers
-    ensures answer { result ≡ fault_numbers (verdict (read_checks file.now)) }
+    ensures answer { result ≡ answer_numbers (verdict (read_checks file.now)) }
     ensures law { AcceptsJustTheWritten file.now }
 {
     told(check_file(file))

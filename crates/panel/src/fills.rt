@@ -1,10 +1,12 @@
 // The fills of a line: least good ones, and the mark of each.
 ghost use Rattle.std.specs.Prelude.{◌≡◌};
-ghost use Rattle.hopper.specs.Any.{any_top, any_table};
-ghost use Rattle.lineformat.specs.Games.{game_of, table_of};
-ghost use Rattle.linefile.specs.Held.{held};
+ghost use Rattle.hopper.specs.Any.{any_hopper};
+ghost use Rattle.lineformat.specs.Games.{game_of, hopper_of};
+ghost use Rattle.linefile.specs.Held.{line_held};
 ghost use Rattle.panel.specs.Told.{Writes};
-ghost use Rattle.panel.specs.Lines.{MarkPromises, FileMarked, LeastPromises, OnGraded, FileLeast};
+ghost use Rattle.solver.specs.Least.{LeastPromises};
+ghost use Rattle.solver.specs.Marking.{MarkPromises};
+ghost use Rattle.panel.specs.Lines.{FileMarked, OnGraded, FileLeast};
 
 use super::numbers::{FaultNumbers, tell};
 use hopper::{AnyVessel, Fault, Graded, Layer, Refusal, Vessel};
@@ -20,7 +22,7 @@ fn mark_over<'x, V: Vessel>(
     vessel: &'x V,
     marks: &mut [u32],
 ) -> Result<u32, Fault>
-    ensures { MarkPromises (game_of (held line.now)) (V.Vessel.top vessel.now) (V.Vessel.table vessel.now) marks.old marks.new result }
+    ensures { MarkPromises (game_of (line_held line.now)) (V.Vessel.hopper vessel.now) marks.old marks.new result }
 {
     mark(heap, line, vessel, marks)
 }
@@ -32,7 +34,7 @@ pub(crate) fn mark_line<'x>(
     vessel: &'x AnyVessel,
     marks: &mut [u32],
 ) -> Result<u32, Fault>
-    ensures { MarkPromises (game_of (held line.now)) (any_top vessel.now) (any_table vessel.now) marks.old marks.new result }
+    ensures { MarkPromises (game_of (line_held line.now)) (any_hopper vessel.now) marks.old marks.new result }
 {
     match vessel {
         AnyVessel::OfLip(lip) => mark_over(heap, line, lip, marks),
@@ -69,7 +71,7 @@ pub(crate) fn least_over<V: Graded>(
     next: &mut [u32],
     budget: u64,
 ) -> Result<u64, Fault>
-    ensures { LeastPromises (game_of (held line.now)) (V.Vessel.top vessel.now) (V.Vessel.table vessel.now) row.old row.new next.old next.new budget result }
+    ensures { LeastPromises (game_of (line_held line.now)) (V.Vessel.hopper vessel.now) row.old row.new next.old next.new budget result }
 {
     least(heap, line, vessel, row, next, budget)
 }
@@ -81,7 +83,7 @@ fn least_line(
     next: &mut [u32],
     budget: u64,
 ) -> Result<u64, Fault>
-    ensures { OnGraded (LeastPromises (game_of (held line.now)) (held line.now).top (table_of (held line.now)) row.old row.new next.old next.new budget result) ((row.new ≡ row.old) × (next.new ≡ next.old)) (held line.now) result }
+    ensures { OnGraded (LeastPromises (game_of (line_held line.now)) (hopper_of (line_held line.now)) row.old row.new next.old next.new budget result) ((row.new ≡ row.old) × (next.new ≡ next.old)) (line_held line.now) result }
 {
     match line.vessel() {
         AnyVessel::OfLip(lip) => least_over(heap, line, &lip, row, next, budget),

@@ -1,6 +1,7 @@
 // Answers as the numbers that C gets.
 ghost use Rattle.std.specs.Prelude.{◌≡◌};
-ghost use Rattle.panel.specs.Told.{refused_with, fault_numbers, written};
+ghost use Rattle.std.specs.Result.{result_unwrap_or};
+ghost use Rattle.panel.specs.Told.{fault_numbers, answer_numbers};
 
 use hopper::Fault;
 
@@ -14,7 +15,7 @@ pub struct FaultNumbers {
 }
 
 impl From<Fault> for FaultNumbers {
-    ghost from_gives = { λ f n. n ≡ refused_with f };
+    ghost from_gives = { λ f n. n ≡ fault_numbers f };
 
     fn from(fault: Fault) -> FaultNumbers {
         FaultNumbers {
@@ -27,8 +28,8 @@ impl From<Fault> for FaultNumbers {
 
 // The numbers of an answer, and its value at `out` where it accepts.
 pub(crate) fn tell<T: Copy>(answer: Result<T, Fault>, out: &mut T) -> FaultNumbers
-    ensures numbers { result ≡ fault_numbers answer }
-    ensures value { out.new ≡ written answer out.old }
+    ensures numbers { result ≡ answer_numbers answer }
+    ensures value { out.new ≡ result_unwrap_or answer out.old }
 {
     match answer {
         Ok(value) => {
@@ -45,7 +46,7 @@ pub(crate) fn tell<T: Copy>(answer: Result<T, Fault>, out: &mut T) -> FaultNumbe
 
 // The numbers of an answer without a value.
 pub(crate) fn told(answer: Result<(), Fault>) -> FaultNumbers
-    ensures { result ≡ fault_numbers answer }
+    ensures { result ≡ answer_numbers answer }
 {
     tell(answer, &mut ())
 }

@@ -1,8 +1,8 @@
 // Plan sheets as numbers.
 ghost use Rattle.std.specs.Prelude.{◌≡◌, ◌<◌, ◌≤◌, length};
-ghost use Rattle.hopper.specs.Any.{any_top, any_table};
+ghost use Rattle.hopper.specs.Any.{any_hopper};
 ghost use Rattle.lineformat.specs.Games.{game_of};
-ghost use Rattle.linefile.specs.Held.{held};
+ghost use Rattle.linefile.specs.Held.{line_held};
 ghost use Rattle.panel.specs.Told.{Writes};
 ghost use Rattle.panel.specs.Sheets.{HeightSays, RowSays, RowsFilled, PlannedRow, PlannedSheet, MoveAt, OrderedRow, OrderedSheet, SheetAnswers, FileSheet};
 
@@ -42,8 +42,8 @@ fn height_of(fill: Option<u32>) -> u32
 
 // The row of a place, with this fill and this move.
 fn row_of(line: &FileLine, place: u32, fill: Option<u32>, mv: Option<u32>) -> RowNumbers
-    requires { place < (game_of (held line.now)).places }
-    ensures { RowSays (game_of (held line.now)) place fill mv result }
+    requires { place < (game_of (line_held line.now)).places }
+    ensures { RowSays (game_of (line_held line.now)) place fill mv result }
 {
     RowNumbers {
         place,
@@ -56,20 +56,20 @@ fn row_of(line: &FileLine, place: u32, fill: Option<u32>, mv: Option<u32>) -> Ro
 
 // The row of a place by the least good fills, with the move planned on them.
 fn planned_row<V: Graded>(line: &FileLine, vessel: &V, least: &[u32], place: u32) -> RowNumbers
-    requires there { place < (game_of (held line.now)).places }
-    requires long { (game_of (held line.now)).places ≤ length least.now }
-    ensures { PlannedRow (game_of (held line.now)) (V.Vessel.top vessel.now) (V.Vessel.table vessel.now) least.now place result }
+    requires there { place < (game_of (line_held line.now)).places }
+    requires long { (game_of (line_held line.now)).places ≤ length least.now }
+    ensures { PlannedRow (game_of (line_held line.now)) (V.Vessel.hopper vessel.now) least.now place result }
 {
     let mv = plan(line, vessel, least, place).ok();
     row_of(line, place, entry_fill(least[place as usize]), mv)
 }
 
 fn fill_planned<V: Graded>(line: &FileLine, vessel: &V, least: &[u32], rows: &mut [RowNumbers])
-    requires long { (game_of (held line.now)).places ≤ length least.now }
-    requires room { (game_of (held line.now)).places ≤ length rows.old }
-    ensures { RowsFilled (game_of (held line.now)).places (PlannedRow (game_of (held line.now)) (V.Vessel.top vessel.now) (V.Vessel.table vessel.now) least.now) rows.old rows.new }
+    requires long { (game_of (line_held line.now)).places ≤ length least.now }
+    requires room { (game_of (line_held line.now)).places ≤ length rows.old }
+    ensures { RowsFilled (game_of (line_held line.now)).places (PlannedRow (game_of (line_held line.now)) (V.Vessel.hopper vessel.now) least.now) rows.old rows.new }
 {
-    let places = Board::places(line) as usize;
+    let places = line.places() as usize;
     for (place, row) in rows[..places].iter_mut().enumerate() {
         *row = planned_row(line, vessel, least, place as u32);
     }
@@ -82,8 +82,8 @@ fn planned_sheet<V: Graded>(
     vessel: &V,
     rows: &mut [RowNumbers],
 ) -> u64
-    requires { (game_of (held line.now)).places ≤ length rows.old }
-    ensures { PlannedSheet (game_of (held line.now)) (V.Vessel.top vessel.now) (V.Vessel.table vessel.now) rows.old rows.new result }
+    requires { (game_of (line_held line.now)).places ≤ length rows.old }
+    ensures { PlannedSheet (game_of (line_held line.now)) (V.Vessel.hopper vessel.now) rows.old rows.new result }
 {
     let mut row = [0; ROW_SIZE];
     let mut next = [0; ROW_SIZE];
@@ -101,7 +101,7 @@ fn move_at(
     place: u32,
     fill: Option<u32>,
 ) -> Option<u32>
-    ensures { MoveAt (game_of (held line.now)) (any_top vessel.now) (any_table vessel.now) marks.now place fill result }
+    ensures { MoveAt (game_of (line_held line.now)) (any_hopper vessel.now) marks.now place fill result }
 {
     match fill {
         Some(level) => ordered_move(line, vessel, marks, place, level),
@@ -111,8 +111,8 @@ fn move_at(
 
 // The row of a place by marks, with the move ordered at its least good fill.
 fn ordered_row(line: &FileLine, vessel: &AnyVessel, marks: &[u32], place: u32) -> RowNumbers
-    requires { place < (game_of (held line.now)).places }
-    ensures { OrderedRow (game_of (held line.now)) (any_top vessel.now) (any_table vessel.now) marks.now place result }
+    requires { place < (game_of (line_held line.now)).places }
+    ensures { OrderedRow (game_of (line_held line.now)) (any_hopper vessel.now) marks.now place result }
 {
     let fill = least_marked_good(marks, vessel.top(), place);
     let mv = move_at(line, vessel, marks, place, fill);
@@ -120,10 +120,10 @@ fn ordered_row(line: &FileLine, vessel: &AnyVessel, marks: &[u32], place: u32) -
 }
 
 fn fill_ordered(line: &FileLine, vessel: &AnyVessel, marks: &[u32], rows: &mut [RowNumbers])
-    requires { (game_of (held line.now)).places ≤ length rows.old }
-    ensures { RowsFilled (game_of (held line.now)).places (OrderedRow (game_of (held line.now)) (any_top vessel.now) (any_table vessel.now) marks.now) rows.old rows.new }
+    requires { (game_of (line_held line.now)).places ≤ length rows.old }
+    ensures { RowsFilled (game_of (line_held line.now)).places (OrderedRow (game_of (line_held line.now)) (any_hopper vessel.now) marks.now) rows.old rows.new }
 {
-    let places = Board::places(line) as usize;
+    let places = line.places() as usize;
     for (place, row) in rows[..places].iter_mut().enumerate() {
         *row = ordered_row(line, vessel, marks, place as u32);
     }
@@ -137,8 +137,8 @@ fn ordered_sheet<'x>(
     marks: &mut [u32],
     rows: &mut [RowNumbers],
 ) -> Result<u64, Fault>
-    requires { (game_of (held line.now)).places ≤ length rows.old }
-    ensures { OrderedSheet (game_of (held line.now)) (any_top vessel.now) (any_table vessel.now) marks.old marks.new rows.old rows.new result }
+    requires { (game_of (line_held line.now)).places ≤ length rows.old }
+    ensures { OrderedSheet (game_of (line_held line.now)) (any_hopper vessel.now) marks.old marks.new rows.old rows.new result }
 {
     let rounds = mark_line(heap, line, vessel, marks)?;
     fill_ordered(line, vessel, marks, rows);
@@ -151,9 +151,9 @@ fn sheet_line(
     marks: &mut [u32],
     rows: &mut [RowNumbers],
 ) -> Result<u64, Fault>
-    ensures { SheetAnswers (held line.now) marks.old marks.new rows.old rows.new result }
+    ensures { SheetAnswers (line_held line.now) marks.old marks.new rows.old rows.new result }
 {
-    let places = Board::places(line);
+    let places = line.places();
     pass(&[check(
         rows.len() < places as usize,
         Refusal::TableTooShort,

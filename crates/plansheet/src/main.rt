@@ -30,7 +30,7 @@ fn print_row(
         fill,
         height: fill.and_then(|litres| height(litres).ok()),
         mv,
-        name: name.text(),
+        name: name.text,
     };
     println!(rt; "{row}")
 }
@@ -43,7 +43,7 @@ fn print_planned<V: Graded>(
     vessel: &V,
     row: &[u32],
 ) -> io::Result<()> {
-    for (place, entry) in (0..Board::places(line)).zip(row) {
+    for (place, entry) in (0..line.places()).zip(row) {
         let mv = plan(line, vessel, row, place).ok();
         print_row(rt, line, place, entry_fill(*entry), mv)?;
     }
@@ -51,7 +51,7 @@ fn print_planned<V: Graded>(
 }
 
 fn graded_sheet<V: Graded>(rt: &HostRuntime, line: &FileLine, vessel: &V) -> io::Result<()> {
-    let places = Board::places(line);
+    let places = line.places();
     let budget = fills(line, vessel);
     let mut row = vec![in rt.alloc(); 0u32; places as usize]?;
     let mut next = vec![in rt.alloc(); 0u32; places as usize]?;
@@ -72,7 +72,7 @@ fn print_ordered(
     marks: &[u32],
 ) -> io::Result<()> {
     // kept as it is: no plainer, a line answers by the number of a place
-    for place in 0..Board::places(line) {
+    for place in 0..line.places() {
         let fill = least_marked_good(marks, vessel.top(), place);
         let mv = fill.and_then(|level| ordered_move(line, vessel, marks, place, level));
         print_row(rt, line, place, fill, mv)?;

@@ -1,4 +1,4 @@
-// Prints the plan sheet of each line file that it is given, with what marks and look-ahead say of the fills that its rows turn on.
+// Prints the plan sheet of each line file that it is given, with what marks and look-ahead say of the fills that its rows turn on, and from which places the other side can bring the run to the first.
 #![tactic(auto)]
 
 use gauge::height;
@@ -8,7 +8,7 @@ use linefile::input::file_bytes;
 use lookahead::{MOST_AHEAD, look_ahead};
 use sheet::closed::{least_marked_good, ordered_move};
 use sheet::{NumberOr, SheetRow, entry_fill};
-use solver::{mark, marks_needed};
+use solver::{forced, mark, marks_needed};
 use std::fs::File;
 use std::{env, io};
 
@@ -57,7 +57,7 @@ fn print_place<'x>(
         fill,
         height: fill.and_then(|litres| height(litres).ok()),
         mv: ordered_move(line, vessel, marks, place, litres),
-        name: name.text(),
+        name: name.text,
     };
     println!(rt; "{row}")?;
     // kept as it is: no plainer, at most two levels, and each is printed
@@ -67,6 +67,25 @@ fn print_place<'x>(
     Ok(())
 }
 
+// Within how many moves the other side can bring the run from each place to place 0.
+fn print_forced(rt: &HostRuntime, line: &FileLine) -> io::Result<()> {
+    let mut marks = vec![in rt.alloc(); 0u32; Board::places(line) as usize]?;
+    match forced(rt.alloc(), line, 0, &mut marks) {
+        Err(fault) => println!(rt; "{fault}"),
+        Ok(rounds) => {
+            println!(rt; "to place 0, rounds {rounds}")?;
+            for (place, entry) in marks.iter().enumerate() {
+                let within = NumberOr {
+                    number: entry_fill(*entry),
+                    word: "never",
+                };
+                println!(rt; "  from {place}: {within}")?;
+            }
+            Ok(())
+        }
+    }
+}
+
 fn print_line<'x>(rt: &HostRuntime, line: &'x FileLine, vessel: &'x AnyVessel) -> io::Result<()> {
     let mut marks = vec![in rt.alloc(); 0u32; marks_needed(line, vessel)]?;
     match mark(rt.alloc(), line, vessel, &mut marks) {
@@ -74,10 +93,10 @@ fn print_line<'x>(rt: &HostRuntime, line: &'x FileLine, vessel: &'x AnyVessel) -
         Ok(rounds) => {
             println!(rt; "{line} rounds {rounds}")?;
             // kept as it is: no plainer, a line answers by the number of a place
-            for place in 0..Board::places(line) {
+            for place in 0..line.places() {
                 print_place(rt, line, vessel, &marks, place)?;
             }
-            Ok(())
+            print_forced(rt, line)
         }
     }
 }

@@ -1,48 +1,22 @@
--- On the marks of an accepted `mark` the first fill marked good is the least good fill.
-use Rattle.std.proofs.Common.{◌≡◌, ℕ, zero, suc, ◌+◌, ◌<◌, ◌≤◌, Bool, true, false, cond, List, get_or, is_some, Some, None, Ok, Option, sym, refl, ap, ◌∙◌, ⊎_elim, arith}
-use Rattle.std.proofs.lemmas.Bool.{cases_lt, cond-true, cond-false, eq-eqb, eqb-true, false≢true, true≢false}
+-- On the marks of an accepted `mark` the lowest fill marked good is the least good fill.
+use Rattle.std.proofs.Common.{◌≡◌, ℕ, ◌<◌, Bool, true, false, List, is_some, Some, None, Option, sym, refl, ap, ◌∙◌, subst, arith}
+use Rattle.std.proofs.lemmas.Bool.{false≢true, true≢false}
 use Rattle.std.specs.Iterator.Runs.{Run}
 use Rattle.std.specs.Option.{MatchOption, option_map}
 use Rattle.std.specs.Range.{range_inclusive_start, range_inclusive_exhausted}
 use Rattle.std.proofs.iter.runs.Sources.{nat_range_inclusive_steps, inclusive_listed}
-use Rattle.game.specs.Fill.{Good, LeastGood}
-use Rattle.game.specs.Forced.{cell}
-use Rattle.lineformat.specs.Checks.{first_from}
-use Rattle.lineformat.proofs.Scan.{none_is_bad, none_found}
+use Rattle.game.specs.Fill.{Good, IsLeast}
 use Rattle.shift.specs.Good.{is_good}
-use Rattle.solver.specs.Entries.{never}
-use Rattle.solver.proofs.Marks.{never_is_good, one_above_top}
-use Rattle.sheet.specs.Fills.{least_marked_good, LeastGoodByMarks}
+use Rattle.shift.proofs.Served.{called_good, good_called}
+use Rattle.solver.specs.Marking.{GoodWhereNever}
+use Rattle.solver.proofs.Marks.{never_good}
+use Rattle.sheet.specs.Fills.{LeastMarkedGood, LeastGoodByMarks}
 
--- what a scan finds passes the test, and nothing before it does
-found : (test : ℕ → Bool) (i n c : ℕ) → first_from test i n ≡ Some c → (i ≤ c) × (c < i + n) × (test c ≡ true) × ((d : ℕ) → i ≤ d → d < c → test d ≡ false)
-found test i zero c e = absurd (false≢true (ap is_some e))
-found test i (suc n) c e = by (test i) refl e (found test (i + 1) n c)
-  where
-    by : (b : Bool) → test i ≡ b → cond b (Some i) (first_from test (i + 1) n) ≡ Some c
-        → (first_from test (i + 1) n ≡ Some c → (i + 1 ≤ c) × (c < i + 1 + n) × (test c ≡ true) × ((d : ℕ) → i + 1 ≤ d → d < c → test d ≡ false))
-        → (i ≤ c) × (c < i + suc n) × (test c ≡ true) × ((d : ℕ) → i ≤ d → d < c → test d ≡ false)
-    by true g e ih = let z : i ≡ c = cc in (omega arith, omega arith, sym (ap test z) ∙ g, λ d l u. absurd (omega arith))
-    by false g e ih =
-        let r = ih e in
-        (omega (arith, r.0), omega (arith, r.1), r.2, λ d l u. ⊎_elim (λ s. r.3 d (omega arith) u) (λ s. let z : i ≡ d = omega arith in sym (ap test z) ∙ g) (cases_lt i d))
-
--- and what is found so is what a scan finds
-found_from : (test : ℕ → Bool) (i n c : ℕ) → i ≤ c → c < i + n → test c ≡ true → ((d : ℕ) → i ≤ d → d < c → test d ≡ false) → Some c ≡ first_from test i n
-found_from test i zero c le lt good before = absurd (omega arith)
-found_from test i (suc n) c le lt good before = ⊎_elim
-    (λ less.
-    let rest = found_from test (i + 1) n c (omega arith) (omega arith) good (λ d l u. before d (omega arith) u) in
-    rest ∙ sym (cond-false (test i) (Some i) (first_from test (i + 1) n) (before i (omega arith) less)))
-    (λ at.
-    let same : c ≡ i = omega arith in
-    ap Some same ∙ sym (cond-true (test i) (Some i) (first_from test (i + 1) n) (ap test (sym same) ∙ good)))
-    (cases_lt i c)
-
-pub first_is : (test : ℕ → Bool) (n : ℕ) (o : Option ℕ)
-    → MatchOption o ((k : ℕ) → k < n → test k ≡ false) (λ c. (c < n) × (test c ≡ true) × ((k : ℕ) → k < c → test k ≡ false)) → o ≡ first_from test 0 n
-first_is test n None none = sym (none_found test n none)
-first_is test n (Some c) one = found_from test 0 n c (omega arith) (omega (arith, one.0)) one.1 (λ d le lt. one.2 d lt)
+-- what a search through the numbers below n finds is the least that passes the test, if none from n on does
+pub search_is_least : (test : ℕ → Bool) (n : ℕ) → ((k : ℕ) → test k ≡ true → k < n) → (o : Option ℕ)
+    → MatchOption o ((k : ℕ) → k < n → test k ≡ false) (λ c. (test c ≡ true) × ((k : ℕ) → k < c → test k ≡ false)) → IsLeast (λ c. test c ≡ true) o
+search_is_least test n small None none = λ c is. true≢false (sym is ∙ none c (small c is))
+search_is_least test n small (Some c) one = (one.0, λ d lt is. true≢false (sym is ∙ one.1 d lt))
 
 -- a run over 0 ..= n comes to each number at its place
 pub comes_to : (p : Run nat_range_inclusive_steps) → range_inclusive_start p.from ≡ 0 → range_inclusive_exhausted p.from ≡ false → (k : ℕ) → k < p.len → p.at k ≡ Some k
@@ -60,23 +34,18 @@ pub by_found : {P : Type 0} {Q : ℕ → Type 0} (o : Option ℕ) → (o ≡ Non
 by_found None none one = none refl
 by_found (Some c) none one = one c refl
 
-pub least_good_by_marks : (top : ℕ) (marks : List ℕ) (p : ℕ) (r : Option ℕ) → r ≡ least_marked_good top marks p → LeastGoodByMarks top marks p r
-least_good_by_marks top marks p r e g wf t keeps old rounds answered lt = go r (sym e)
+pub least_good_by_marks : (top : ℕ) (marks : List ℕ) (p : ℕ) (r : Option ℕ) → LeastMarkedGood top marks p r → LeastGoodByMarks top marks p r
+least_good_by_marks top marks p r least g wf v keeps same old rounds answered lt = go r (subst (λ (n : ℕ). LeastMarkedGood n marks p r) (sym same) least)
   where
-    is : (c : ℕ) → c ≤ top → is_good top marks p c ≡ true → Good g t p c
-    is c h q = (never_is_good g wf top t keeps old marks (Ok rounds) answered p c lt h).0 (eqb-true (get_or marks (cell top p c) 0) never q)
+    exact : GoodWhereNever g v marks
+    exact = never_good g wf v keeps old marks rounds answered.1
 
-    back : (c : ℕ) → c ≤ top → Good g t p c → is_good top marks p c ≡ true
-    back c h q = eq-eqb (get_or marks (cell top p c) 0) never ((never_is_good g wf top t keeps old marks (Ok rounds) answered p c lt h).1 q)
+    is : (c : ℕ) → is_good v.top marks p c ≡ true → Good g v.table p c
+    is c q = called_good g wf v keeps marks exact p c lt q
 
-    above : (c : ℕ) → top < c → ¬ Good g t p c
-    above c h q = (one_above_top g wf top t keeps p c lt h).0.0 (q 1)
+    back : (c : ℕ) → Good g v.table p c → is_good v.top marks p c ≡ true
+    back c q = good_called g wf v keeps marks exact p c lt q
 
-    go : (o : Option ℕ) → least_marked_good top marks p ≡ o → LeastGood g t p o
-    go None q = λ c good. ⊎_elim
-        (λ s. above c s good)
-        (λ s. true≢false (sym (back c s good) ∙ none_is_bad (is_good top marks p) (top + 1) q c (omega arith)))
-        (cases_lt top c)
-    go (Some c) q =
-        let f = found (is_good top marks p) 0 (top + 1) c q in
-        (is c (omega (arith, f.1)) f.2, λ d u good. true≢false (sym (back d (omega (arith, f.1)) good) ∙ f.3 d (omega arith) u))
+    go : (o : Option ℕ) → LeastMarkedGood v.top marks p o → IsLeast (Good g v.table p) o
+    go None l = λ c good. l c (back c good)
+    go (Some c) l = (is c l.0, λ d u good. l.1 d u (back d good))

@@ -3,5 +3,4 @@ pub mod Search
 pub mod Ordered
 pub mod Served
 pub mod Answered
-pub mod WholeFate
-pub mod Reports
+pub mod StartingFill

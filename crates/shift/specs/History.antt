@@ -1,9 +1,10 @@
 -- Histories: lists of calls on a shift with what they answered, and the moves made in them.
-use Rattle.std.specs.Prelude.{◌≡◌, ℕ, List, [], ◌∷◌, ◌++◌, is_ok, cond, Option, Result, ⊤}
+use Rattle.std.specs.Prelude.{◌≡◌, ℕ, List, [], ◌∷◌, is_ok, cond, Option, Result, ⊤}
+use Rattle.std.specs.List.{flat_map}
 use Rattle.std.specs.Option.{option_map}
 use Rattle.std.specs.Result.{result_err}
 use Rattle.game.specs.Game.{Game}
-use Rattle.game.specs.Vessel.{Table}
+use Rattle.game.specs.Vessel.{Hopper}
 use Rattle.game.specs.Play.{Run}
 use Rattle.hopper.specs.declared.Fault.{Fault}
 use Rattle.shift.specs.declared.Order.{Order}
@@ -39,26 +40,25 @@ refused_with (Done o r) = option_map (λ x. x.fault) (result_err r)
 refused_with (Withdrawn o r) = option_map (λ x. x.fault) (result_err r)
 refused_with (Arrived m r) = result_err r
 
--- the moves made in one event: the one of an accepted done report or of an accepted arrival, else none
+-- the run of an event: one move where it takes the shift along, else none
 abbrev pub move_made : Event → Run
 move_made (Ordered r) = []
 move_made (Done o r) = cond (is_ok r) (o.mv ∷ []) []
 move_made (Withdrawn o r) = []
 move_made (Arrived m r) = cond (is_ok r) (m ∷ []) []
 
--- the moves made in a list of events, in their order
+-- the run of all events of the list
 abbrev pub moves_made : List Event → Run
-moves_made [] = []
-moves_made (e ∷ es) = move_made e ++ moves_made es
+moves_made = flat_map move_made
 
 -- the event can happen to the shift s: its call answers as it must, and leaves the shift s'
-abbrev pub Happens : Game → ℕ → Table → List ℕ → Shift → Event → Shift → Type 0
-Happens g top t marks s (Ordered r) s' = OrderAnswers g top t marks s s' r
-Happens g top t marks s (Done o r) s' = DoneAnswers g top t o s s' r
-Happens g top t marks s (Withdrawn o r) s' = WithdrawnAnswers o s s' r
-Happens g top t marks s (Arrived m r) s' = ArrivedAnswers g top t m s s' r
+abbrev pub Happens : Game → Hopper → List ℕ → Shift → Event → Shift → Type 0
+Happens g v marks s (Ordered r) s' = OrderAnswers g v marks s s' r
+Happens g v marks s (Done o r) s' = DoneAnswers g v o s s' r
+Happens g v marks s (Withdrawn o r) s' = WithdrawnAnswers o s s' r
+Happens g v marks s (Arrived m r) s' = ArrivedAnswers g v m s s' r
 
 -- the events, one after another, lead from the shift s to the shift s'
-abbrev pub History : Game → ℕ → Table → List ℕ → Shift → List Event → Shift → Type 0
-History g top t marks s [] s' = s ≡ s'
-History g top t marks s (e ∷ es) s' = (next : Shift) × Happens g top t marks s e next × History g top t marks next es s'
+abbrev pub History : Game → Hopper → List ℕ → Shift → List Event → Shift → Type 0
+History g v marks s [] s' = s ≡ s'
+History g v marks s (e ∷ es) s' = (next : Shift) × Happens g v marks s e next × History g v marks next es s'

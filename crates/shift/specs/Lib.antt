@@ -2,6 +2,5 @@
 pub mod Good
 pub mod Checks
 pub mod Answers
-pub mod Plain
 pub mod History
-pub mod Fate
+pub mod StartingFill

@@ -10,7 +10,7 @@ use solver::fills;
 // kept as it is: each call of a shift is shown a board, a vessel and marks anew, and believes what they say of places, levels and moves that are there.
 // The marks have no room for the fills and the spill.
 pub(crate) fn marks_too_short<B: Board, V: Vessel>(board: &B, vessel: &V, marks: &[u32]) -> Check
-    ensures { result ≡ marks_too_short (B.Board.game board.now) (V.Vessel.top vessel.now) marks.now }
+    ensures { result ≡ marks_too_short (B.Board.game board.now) (V.Vessel.hopper vessel.now) marks.now }
 {
     let needed = fills(board, vessel) + 1;
     check(
@@ -23,7 +23,7 @@ pub(crate) fn marks_too_short<B: Board, V: Vessel>(board: &B, vessel: &V, marks:
 
 // The level that the vessel pours the move to.
 pub(crate) fn poured_to<V: Vessel>(vessel: &V, level: u32, edge: Option<Edge>) -> Option<u32>
-    ensures { result ≡ poured_to (V.Vessel.table vessel.now) level edge }
+    ensures { result ≡ poured_to (V.Vessel.hopper vessel.now).table level edge }
 {
     vessel.pour(level, edge?.amount)
 }
@@ -43,7 +43,7 @@ impl Shift {
 
     // The shift stands off this board, or above this vessel's top.
     pub(crate) fn not_on_board<B: Board, V: Vessel>(&self, board: &B, vessel: &V) -> Check
-        ensures { result ≡ not_on_board (B.Board.game board.now) (V.Vessel.top vessel.now) self.now }
+        ensures { result ≡ not_on_board (B.Board.game board.now) (V.Vessel.hopper vessel.now) self.now }
     {
         check(
             self.place >= board.places() || self.level > vessel.top(),
@@ -55,7 +55,7 @@ impl Shift {
 
     // The place belongs to this owner.
     pub(crate) fn place_is<B: Board>(&self, board: &B, owner: Owner) -> Check
-        ensures { result ≡ place_is (B.Board.game board.now) self.now owner }
+        ensures { result ≡ place_is (B.Board.game board.now) owner self.now }
     {
         let refusal = match owner {
             Owner::Ours => Refusal::PlaceIsOurs,
@@ -109,7 +109,7 @@ impl Shift {
         vessel: &V,
         mv: u32,
     ) -> Check
-        ensures { result ≡ vessel_refuses (B.Board.game board.now) (V.Vessel.table vessel.now) self.now mv }
+        ensures { result ≡ vessel_refuses (B.Board.game board.now) (V.Vessel.hopper vessel.now) self.now mv }
     {
         check(
             poured_to(vessel, self.level, board.step(self.place, mv)).is_none(),

@@ -8,12 +8,11 @@ use hopper::Fault;
 mod checks;
 mod good;
 mod moving;
+mod numbers;
 mod opening;
 mod ordering;
-pub mod plain;
 
 pub use good::marked_good;
-pub use plain::PlainShift;
 
 // A shift: the number that its opener chose, the place and the level where it stands, and the move of its open order.
 #[derive(Drop)]
@@ -62,6 +61,13 @@ impl Shift {
         ensures { result ≡ self.now.level }
     {
         self.level
+    }
+
+    // The move of the open order.
+    pub fn opened(&self) -> Option<u32>
+        ensures { result ≡ self.now.opened }
+    {
+        self.opened
     }
 }
 

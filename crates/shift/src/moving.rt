@@ -17,7 +17,7 @@ impl Shift {
         vessel: &V,
         order: &Order,
     ) -> Result<(), Fault>
-        ensures { result ≡ verdict (done_checks (B.Board.game board.now) (V.Vessel.top vessel.now) (V.Vessel.table vessel.now) self.now order.now) }
+        ensures { result ≡ verdict (done_checks (B.Board.game board.now) (V.Vessel.hopper vessel.now) self.now order.now) }
     {
         pass(&[
             self.not_the_open_order(order),
@@ -35,7 +35,7 @@ impl Shift {
         vessel: &V,
         mv: u32,
     ) -> Result<(), Fault>
-        ensures { result ≡ verdict (arrived_checks (B.Board.game board.now) (V.Vessel.top vessel.now) (V.Vessel.table vessel.now) self.now mv) }
+        ensures { result ≡ verdict (arrived_checks (B.Board.game board.now) (V.Vessel.hopper vessel.now) self.now mv) }
     {
         pass(&[
             self.order_still_open(),
@@ -48,7 +48,7 @@ impl Shift {
 
     // Goes on to the move's target and the level that it is poured to, with no order open.
     fn go_on<B: Board, V: Vessel>(&mut self, board: &B, vessel: &V, mv: u32)
-        ensures { self.new ≡ moved (V.Vessel.table vessel.now) self.old (step_at ((B.Board.game board.now).at self.old.place) mv) }
+        ensures { self.new ≡ moved (V.Vessel.hopper vessel.now).table self.old (step_at ((B.Board.game board.now).at self.old.place) mv) }
     {
         if let Some(edge) = board.step(self.place, mv)
             && let Some(poured) = vessel.pour(self.level, edge.amount)
@@ -66,7 +66,7 @@ impl Shift {
         vessel: &V,
         order: Order,
     ) -> Result<(), Returned>
-        ensures { DoneAnswers (B.Board.game board.now) (V.Vessel.top vessel.now) (V.Vessel.table vessel.now) order self.old self.new result }
+        ensures { DoneAnswers (B.Board.game board.now) (V.Vessel.hopper vessel.now) order self.old self.new result }
     {
         if let Err(fault) = self.check_done(board, vessel, &order) {
             return Err(Returned { fault, order });
@@ -83,7 +83,7 @@ impl Shift {
         vessel: &V,
         mv: u32,
     ) -> Result<(), Fault>
-        ensures { ArrivedAnswers (B.Board.game board.now) (V.Vessel.top vessel.now) (V.Vessel.table vessel.now) mv self.old self.new result }
+        ensures { ArrivedAnswers (B.Board.game board.now) (V.Vessel.hopper vessel.now) mv self.old self.new result }
     {
         self.check_arrived(board, vessel, mv)?;
         self.go_on(board, vessel, mv);

@@ -3,7 +3,7 @@ ghost use Rattle.std.specs.Prelude.{◌≡◌};
 ghost use Rattle.hopper.specs.Refusing.{verdict};
 ghost use Rattle.shift.specs.Checks.{open_checks};
 ghost use Rattle.shift.specs.Answers.{OpenAnswers, CloseAnswers};
-ghost use Rattle.shift.specs.Fate.{StartingFillTellsTheWholeFate};
+ghost use Rattle.shift.specs.StartingFill.{StartingFillsDecide};
 
 use super::checks::marks_too_short;
 use super::good::marked_good;
@@ -20,7 +20,7 @@ fn check_open<B: Board, V: Vessel>(
     place: u32,
     fill: u32,
 ) -> Result<(), Fault>
-    ensures { result ≡ verdict (open_checks (B.Board.game board.now) (V.Vessel.top vessel.now) marks.now place fill) }
+    ensures { result ≡ verdict (open_checks (B.Board.game board.now) (V.Vessel.hopper vessel.now) marks.now place fill) }
 {
     // kept as it is: no plainer, each call says its checks in a table of its own, those that others have too.
     pass(&[
@@ -62,8 +62,8 @@ impl Shift {
         place: u32,
         fill: u32,
     ) -> Result<Shift, Fault>
-        ensures answer { OpenAnswers (B.Board.game board.now) (V.Vessel.top vessel.now) marks.now number place fill result }
-        ensures fate { StartingFillTellsTheWholeFate }
+        ensures answer { OpenAnswers (B.Board.game board.now) (V.Vessel.hopper vessel.now) marks.now number place fill result }
+        ensures decides { StartingFillsDecide }
     {
         check_open(board, vessel, marks, place, fill)?;
         Ok(Shift {
@@ -74,7 +74,7 @@ impl Shift {
         })
     }
 
-    // Ends the shift, where no order is open, and answers its place and level.
+    // Gives the shift up for the place and the level where it stood, unless an order is open.
     pub fn close(self) -> Result<(u32, u32), StillOpen>
         ensures { CloseAnswers self result }
     {

@@ -23,14 +23,14 @@ impl Order {
 }
 
 impl Shift {
-    // The number of the first move that the vessel pours to a good level, where an order can be given out.
+    // Which move is to be ordered: the lowest in number of those that stay good, if an order can be given out at all.
     fn first_good<B: Board, V: Vessel>(
         &self,
         board: &B,
         vessel: &V,
         marks: &[u32],
     ) -> Result<u32, Fault>
-        ensures { Answers (order_checks (B.Board.game board.now) (V.Vessel.top vessel.now) (V.Vessel.table vessel.now) marks.now self.now) (FirstGoodMove (V.Vessel.top vessel.now) (V.Vessel.table vessel.now) marks.now self.now.level ((B.Board.game board.now).at self.now.place)) ⊤ result }
+        ensures { Answers (order_checks (B.Board.game board.now) (V.Vessel.hopper vessel.now) marks.now self.now) (FirstGoodMove (V.Vessel.hopper vessel.now) marks.now self.now.level ((B.Board.game board.now).at self.now.place)) ⊤ result }
     {
         pass(&[
             self.order_still_open(),
@@ -39,7 +39,7 @@ impl Shift {
             self.place_is(board, Owner::Theirs),
         ])?;
         let mut m = 0;
-        // kept as it is: asked for in this form, a loop that yields by `break` the number of the move that it finds
+        // kept as it is: no plainer, a board hands out its moves one by one by number, and the number that `break` yields is the order's.
         let found = loop {
             let Some(edge) = board.step(self.place, m) else {
                 return Err(Fault {
@@ -63,7 +63,7 @@ impl Shift {
         vessel: &V,
         marks: &[u32],
     ) -> Result<Order, Fault>
-        ensures answer { OrderAnswers (B.Board.game board.now) (V.Vessel.top vessel.now) (V.Vessel.table vessel.now) marks.now self.old self.new result }
+        ensures answer { OrderAnswers (B.Board.game board.now) (V.Vessel.hopper vessel.now) marks.now self.old self.new result }
         ensures open { IfOk result (λ o. is_open_order self.new o ≡ true) }
     {
         let mv = self.first_good(board, vessel, marks)?;

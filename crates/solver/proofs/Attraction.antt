@@ -4,13 +4,14 @@ use Rattle.std.proofs.lemmas.List.{length-replicate}
 use native.Mathlib.Decide.{ℕ_discrete}
 use Rattle.std.proofs.lemmas.Bool.{false≢true}
 use Rattle.std.proofs.lemmas.Bool.Decides.{nat_tests}
-use Rattle.game.specs.Game.{Game, WellFormed, sum_below}
+use Rattle.game.specs.Game.{Game, WellFormed}
 use Rattle.game.specs.Fill.{IsLeast}
 use Rattle.game.specs.Forced.{ForcesInto, Forces, IsForced}
 use Rattle.game.proofs.Forced.{into_map, forces_longer, forced_settles}
-use Rattle.game.proofs.Sums.{sum_const, sum_lt}
+use Rattle.game.proofs.Sums.{sum_below, sum_const, sum_lt}
 use Rattle.solver.specs.Entries.{never, as_entry, entries}
-use Rattle.solver.specs.Forcing.{MarkedBelow, RoundDone, ForcedMarks}
+use Rattle.solver.specs.Inner.Marks.{MarkedBelow, RoundDone}
+use Rattle.solver.specs.Forcing.{ForcedMarks}
 use Rattle.solver.proofs.Entries.{entry_small, entry_back, past_front, filled_front}
 
 -- 1 where the number is never
@@ -135,7 +136,7 @@ module _ (g : Game) (w : WellFormed g) (t : ℕ) (inside : t < g.places) (old : 
         exact = entry;
         kept = record { same_length = size; same_rest = λ k l. u.rest k l ∙ (s.rest k l ∙ rest k l) };
         largest = record {
-          most = bound;
+          most = λ n w. bound w.0 n w.1 w.2;
           attained =
               (let k = s.reached.0 in
               let l = s.reached.1 in

@@ -1,15 +1,16 @@
 -- The best of the marks that a place's moves lead to.
-use Rattle.std.proofs.Common.{◌≡◌, ℕ, ◌<◌, ◌≤◌, true, false, ◌↔◌, List, slice_index, Some, sym, ◌∙◌, subst, inl, inr, arith}
+use Rattle.std.proofs.Common.{◌≡◌, ℕ, ◌<◌, true, false, ◌↔◌, List, slice_index, Some, sym, ◌∙◌, subst, inl, inr, arith}
 use Rattle.std.proofs.lemmas.Bool.{cases_lt}
 use Rattle.game.specs.declared.Edge.{Edge}
+use Rattle.game.specs.declared.Owner.{Owner}
 use Rattle.game.specs.declared.Owner.TheVariants.{Ours, Theirs}
 use Rattle.game.specs.Game.{Game}
-use Rattle.game.specs.Forced.{ForcesInto}
+use Rattle.game.specs.Forced.{foe, ForcesInto}
 use Rattle.game.proofs.Base.{some_inj}
 use Rattle.hopper.specs.Boards.{owner_at, count_at}
 use Rattle.hopper.proofs.Boards.{step_below}
-use Rattle.solver.specs.Forcing.{MarkedBelow, LeadsTo}
-use Rattle.solver.specs.Settling.{LeadsToMark, IsBest}
+use Rattle.solver.specs.Inner.Marks.{MarkedBelow, LeadsTo, LeadsToMark, IsBest}
+use Rattle.solver.specs.Inner.Rows.{Prefers}
 use Rattle.solver.proofs.Choosing.{each_forces, some_forces}
 
 -- a test of a number tells as the number does
@@ -30,15 +31,14 @@ module _ (g : Game) (marks : List ℕ) (p : ℕ) where
   led_below : (m n : ℕ) → LeadsToMark g marks p m n → m < count_at (g.at p)
   led_below m n l = step_below (g.at p) m l.0 l.1
 
-  -- where the place is ours it is the largest, where it is theirs the least
-  pub highest_is_best : (z : ℕ) → owner_at (g.at p) ≡ Some Ours → ((m : ℕ) → m < count_at (g.at p) → (n : ℕ) × LeadsToMark g marks p m n × (n ≤ z)) → (m : ℕ) × LeadsToMark g marks p m z → IsBest g marks p z
-  highest_is_best z own all one r = tells_less z r (ForcesInto g (MarkedBelow marks r) p) (
+  -- what the other one prefers is the best
+  pub preferred_is_best : (o : Owner) (z : ℕ) → owner_at (g.at p) ≡ Some o → ((m : ℕ) → m < count_at (g.at p) → (n : ℕ) × LeadsToMark g marks p m n × Prefers (foe o) z n)
+      → (m : ℕ) × LeadsToMark g marks p m z → IsBest g marks p z
+  preferred_is_best Ours z own all one r = tells_less z r (ForcesInto g (MarkedBelow marks r) p) (
     λ lt. each_forces g (MarkedBelow marks r) p own true (λ m less. let w = all m less in let le = w.2 in below r m w.0 w.1 (omega arith)),
     λ not. each_forces g (MarkedBelow marks r) p own false (one.0, led_below one.0 z one.1, λ k. not (not_below r one.0 z one.1 k)),
   )
-
-  pub lowest_is_best : (z : ℕ) → owner_at (g.at p) ≡ Some Theirs → ((m : ℕ) → m < count_at (g.at p) → (n : ℕ) × LeadsToMark g marks p m n × (z ≤ n)) → (m : ℕ) × LeadsToMark g marks p m z → IsBest g marks p z
-  lowest_is_best z own all one r = tells_less z r (ForcesInto g (MarkedBelow marks r) p) (
+  preferred_is_best Theirs z own all one r = tells_less z r (ForcesInto g (MarkedBelow marks r) p) (
     λ lt. some_forces g (MarkedBelow marks r) p own true (one.0, below r one.0 z one.1 lt),
     λ not. some_forces g (MarkedBelow marks r) p own false (λ m less k. let w = all m less in let le = w.2 in let lt = not_below r m w.0 w.1 k in not (omega arith)),
   )

@@ -7,8 +7,8 @@ use Rattle.game.specs.declared.Edge.{Edge}
 use Rattle.game.specs.Game.{Game, WellFormed}
 use Rattle.hopper.specs.Boards.{step_at}
 use Rattle.hopper.proofs.Boards.{step_inside}
-use Rattle.solver.specs.Changing.{Listed, Flagged, IsWorklist, ListsChanges}
-use Rattle.solver.specs.Origins.{IsSource, AllSources}
+use Rattle.solver.specs.Inner.Changing.{Listed, Flagged, IsWorklist, ListsChanges}
+use Rattle.solver.specs.Inner.Moves.{IsSource, AllSources}
 use Rattle.solver.proofs.Entries.{front_same, same_front}
 
 -- where places without a flag had the right entry before, each place has it now

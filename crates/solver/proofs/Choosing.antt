@@ -11,12 +11,13 @@ use Rattle.game.specs.declared.Edge.{Edge}
 use Rattle.game.specs.declared.Owner.{Owner}
 use Rattle.game.specs.declared.Owner.TheVariants.{Ours, Theirs}
 use Rattle.game.specs.Game.{Place, Game, WellFormed}
+use Rattle.game.specs.Limits.{most_moves}
 use Rattle.game.specs.Fill.{Choice}
 use Rattle.game.specs.Forced.{foe, ForcesInto}
 use Rattle.game.proofs.Base.{none_some, some_inj}
 use Rattle.hopper.specs.Boards.{owner_at, step_at, count_at}
 use Rattle.hopper.proofs.Boards.{step_place, step_at_lem, step_below, step_there, owned}
-use Rattle.solver.specs.Forcing.{LeadsTo}
+use Rattle.solver.specs.Inner.Marks.{LeadsTo}
 
 -- where the place is ours every move has to lead there, where it is theirs some move
 Led : Owner → Game → (ℕ → Type 0) → ℕ → Type 0
@@ -57,7 +58,15 @@ some_there (Some x) not = (x, refl)
 pub some_move : (g : Game) → WellFormed g → (p : ℕ) → p < g.places → 1 ≤ count_at (g.at p)
 some_move g wf p lt =
     let w = wf.here p lt in
-    let some = w.2.some_move in
+    let some = w.2.sound.some_move in
+    let same : count_at (g.at p) ≡ length w.0.moves = ap count_at w.1 in
+    omega arith
+
+-- and no more than a board allows
+pub few_moves : (g : Game) → WellFormed g → (p : ℕ) → p < g.places → count_at (g.at p) ≤ most_moves
+few_moves g wf p lt =
+    let w = wf.here p lt in
+    let few = w.2.sound.few_moves in
     let same : count_at (g.at p) ≡ length w.0.moves = ap count_at w.1 in
     omega arith
 

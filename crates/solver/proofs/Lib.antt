@@ -8,7 +8,6 @@ pub mod Passing
 pub mod Best
 pub mod Unfolds
 pub mod Marks
-pub mod Parting
 pub mod Serving
 pub mod RowByRow
 pub mod Following

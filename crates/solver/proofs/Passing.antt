@@ -4,7 +4,7 @@ use Rattle.std.specs.Bool.{then_some}
 use Rattle.std.proofs.lemmas.Bool.{cases_lt}
 use Rattle.game.specs.Game.{Game}
 use Rattle.solver.specs.Entries.{never}
-use Rattle.solver.specs.Settling.{IsDue, Settled}
+use Rattle.solver.specs.Inner.Marks.{IsDue, Settled}
 
 -- what is answered where the test holds is so where it holds
 pub if_then_some : {A : Type 0} (b : Bool) (x : A) (P : A → Type 0) → (b ≡ true → P x) → IfSome (then_some b x) P

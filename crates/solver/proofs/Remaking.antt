@@ -1,36 +1,13 @@
 -- A row made from the one before by what changed.
-use Rattle.std.proofs.Common.{◌≡◌, ℕ, ◌+◌, ◌<◌, ◌≤◌, ◌⊎◌, Bool, false, List, length, set, slice_index, Some, sym, ◌∙◌, subst, inl, inr, arith, get_or-set_other, get_or-set_same, length-set, below_more}
+use Rattle.std.proofs.Common.{◌≡◌, ℕ, ◌+◌, ◌<◌, ◌≤◌, ◌⊎◌, Bool, false, List, length, set, slice_index, sym, ◌∙◌, subst, inl, inr, arith, get_or-set_other, get_or-set_same, length-set, below_more}
 use native.Mathlib.Decide.{ℕ_discrete}
 use Rattle.std.proofs.lemmas.List.{get_or_past}
 use Rattle.std.proofs.lemmas.Bool.{cases_lt, false≢true}
-use Rattle.game.specs.Game.{Game, WellFormed}
-use Rattle.game.specs.Vessel.{Table}
-use Rattle.game.specs.Limits.{most_top}
-use Rattle.game.specs.Fill.{Step}
-use Rattle.game.proofs.Lip.{step_through}
-use Rattle.hopper.specs.Boards.{step_at}
-use Rattle.hopper.proofs.Boards.{step_at_lem}
-use Rattle.solver.specs.Changing.{Listed, Flagged, ListsChanges}
-use Rattle.solver.specs.Least.{Parts}
-use Rattle.solver.specs.RowSteps.{Enough}
-use Rattle.solver.proofs.Parting.{parts_map}
-use Rattle.game.specs.declared.Edge.{Edge}
+use Rattle.solver.specs.Inner.Changing.{Listed, Flagged, ListsChanges}
 
 -- only a place has a flag
 pub flagged_inside : (flags : List Bool) (p : ℕ) → Flagged flags p → p < length flags
 flagged_inside flags p f = elim (cases_lt p (length flags)) [ inl lt ↦ lt | inr le ↦ absurd (false≢true (sym (get_or_past flags p false le) ∙ f)) ]
-
-module _ (g : Game) (wf : WellFormed g) (top : ℕ) (fits : top ≤ most_top) (t : Table) (row row' : List ℕ) (p : ℕ) where
-  -- the same entry parts the levels of a place where the entries of its targets are the same
-  pub unchanged : ((m : ℕ) (e : Edge) → step_at (g.at p) m ≡ Some e → slice_index row' e.target ≡ slice_index row e.target)
-      → (n : ℕ) → Parts top (Step g t (Enough row) p) n → Parts top (Step g t (Enough row') p) n
-  unchanged same n s =
-      parts_map top fits (Step g t (Enough row) p) (Step g t (Enough row') p)
-      (λ c le. step_through g wf t t (Enough row) (Enough row') p c c
-      (λ q at m e mv th. (th.0, th.1, (let e' = same m e (step_at_lem g p m q e at mv) in let h = th.2 in omega arith))))
-      (λ c le. step_through g wf t t (Enough row') (Enough row) p c c
-      (λ q at m e mv th. (th.0, th.1, (let e' = same m e (step_at_lem g p m q e at mv) in let h = th.2 in omega arith))))
-      n s
 
 -- one of the first n is one of the first n and the next
 listed_more : (list : List ℕ) (n p : ℕ) → Listed list n p → Listed list (n + 1) p

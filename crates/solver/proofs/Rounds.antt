@@ -7,7 +7,7 @@ use Rattle.game.specs.Game.{Game, WellFormed}
 use Rattle.game.specs.Forced.{ForcesInto}
 use Rattle.game.proofs.Forced.{into_map}
 use Rattle.solver.specs.Entries.{never}
-use Rattle.solver.specs.Forcing.{MarkedBelow, RoundDone}
+use Rattle.solver.specs.Inner.Marks.{MarkedBelow, RoundDone}
 
 module _ (g : Game) (wf : WellFormed g) (old : List ℕ) (round : ℕ) (small : round < never) (fits : (k : ℕ) → get_or old k 0 ≤ never) where
   same : (n : ℕ) (new : List ℕ) (fresh : Bool) → RoundDone g n old new round fresh → (q : ℕ) → (get_or new q 0 < round → get_or old q 0 < round) × (get_or old q 0 < round → get_or new q 0 < round)

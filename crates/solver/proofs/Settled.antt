@@ -5,8 +5,8 @@ use Rattle.game.specs.Game.{Game, WellFormed}
 use Rattle.game.specs.Forced.{Forces, IsForced}
 use Rattle.game.proofs.Forced.{into_map, forced_settles}
 use Rattle.solver.specs.Entries.{never, as_entry, entries, KeptFrom}
-use Rattle.solver.specs.Forcing.{MarkedBelow, ForcedMarks}
-use Rattle.solver.specs.Settling.{Settled}
+use Rattle.solver.specs.Inner.Marks.{MarkedBelow, Settled}
+use Rattle.solver.specs.Forcing.{ForcedMarks}
 use Rattle.solver.proofs.Entries.{entry_small, entry_back}
 
 module _ (g : Game) (w : WellFormed g) (t : ℕ) (inside : t < g.places) (marks : List ℕ) (rounds : ℕ) (few : rounds < g.places) (s : Settled g t g.places marks rounds) where
@@ -74,7 +74,7 @@ module _ (g : Game) (w : WellFormed g) (t : ℕ) (inside : t < g.places) (marks 
     exact = exact;
     kept = kept;
     largest = record {
-      most = bound;
+      most = λ n w. bound w.0 n w.1 w.2;
       attained = (let k = attained in let z = low rounds (omega arith) in (k.0, k.1, ap as_entry k.2 ∙ entry_small rounds (omega arith)));
     };
   }

@@ -19,7 +19,6 @@ pub record KeptFrom (n : ℕ) (old new : List ℕ) : Type 0 where
   pub same_length : length new ≡ length old
   pub same_rest : (k : ℕ) → n ≤ k → slice_index new k ≡ slice_index old k
 
--- the largest of the first n entries that is a number
-pub record IsLargest (n : ℕ) (buffer : List ℕ) (largest : ℕ) : Type 0 where
-  pub most : (k x : ℕ) → k < n → entries buffer k ≡ Some x → x ≤ largest
-  pub attained : (k : ℕ) × (k < n) × (entries buffer k ≡ Some largest)
+-- one of the first n entries is this number
+abbrev pub HasEntry : ℕ → List ℕ → ℕ → Type 0
+HasEntry n buffer x = (k : ℕ) × (k < n) × (entries buffer k ≡ Some x)

@@ -1,13 +1,7 @@
--- The definitions of this crate.
+-- The definitions of this crate: what `forced`, `mark`, `least` and `plan` answer, and apart from it what only the functions within are told by.
 pub mod Entries
-pub mod Unfolding
 pub mod Forcing
-pub mod Settling
 pub mod Marking
 pub mod Least
-pub mod RowSteps
 pub mod Planning
-pub mod EdgeTable
-pub mod Origins
-pub mod Changing
-pub mod Needs
+pub mod Inner

@@ -2,13 +2,12 @@
 ghost use Rattle.std.specs.Prelude.{◌≡◌, ◌<◌, ◌≤◌, length};
 ghost use Rattle.std.specs.Bool.{Decides};
 ghost use Rattle.game.specs.Forced.{ForcesInto};
-ghost use Rattle.game.specs.Fill.{Step};
 ghost use Rattle.hopper.specs.Boards.{owner_at, step_at, count_at};
-ghost use Rattle.solver.specs.Forcing.{MarkedBelow, LeadsTo};
-ghost use Rattle.solver.specs.Least.{Parts};
-ghost use Rattle.solver.specs.RowSteps.{Enough, NeededFor};
+ghost use Rattle.solver.specs.Inner.Marks.{MarkedBelow, LeadsTo};
+ghost use Rattle.solver.specs.Inner.Rows.{NeededFor, IsNext};
 
 use super::NEVER;
+use super::preferring::preferred;
 use game::{Edge, Owner};
 use hopper::{Board, Graded};
 
@@ -72,10 +71,10 @@ impl<B: Board> Entries<'_, B> {
         }
     }
 
-    // The lowest level from which its move m leads to its target's entry or above, or never.
+    // What its move m needs for its target's entry, never where no level is enough.
     pub(crate) fn needed<V: Graded>(&self, vessel: &V, place: u32, m: u32) -> u32
         requires { m < count_at ((B.Board.game self.now.board.now).at place) }
-        ensures { NeededFor (B.Board.game self.now.board.now) (V.Vessel.top vessel.now) (V.Vessel.table vessel.now) self.now.entries.now place m result }
+        ensures { NeededFor (B.Board.game self.now.board.now) (V.Graded.need vessel.now) self.now.entries.now place m result }
     {
         let edge = self.move_at(place, m);
         vessel
@@ -83,19 +82,17 @@ impl<B: Board> Entries<'_, B> {
             .unwrap_or(NEVER)
     }
 
-    // The lowest level from which a move of the place, whoever chooses it, leads to its target's entry or above, or never.
+    // The place's entry in the next row.
     pub(crate) fn next_entry<V: Graded>(&self, vessel: &V, place: u32) -> u32
         requires { place < (B.Board.game self.now.board.now).places }
-        ensures { Parts (V.Vessel.top vessel.now) (Step (B.Board.game self.now.board.now) (V.Vessel.table vessel.now) (Enough self.now.entries.now) place) result }
+        ensures { IsNext (B.Board.game self.now.board.now) (V.Graded.need vessel.now) self.now.entries.now place result }
     {
-        let levels = (0..self.move_count(place)).map(
+        preferred(
+            self.owner(place),
+            self.move_count(place),
             |m|
                 requires { m < count_at ((B.Board.game self.now.board.now).at place) }
             { self.needed(vessel, place, m) },
-        );
-        match self.owner(place) {
-            Owner::Ours => levels.min().unwrap(),
-            Owner::Theirs => levels.max().unwrap(),
-        }
+        )
     }
 }

@@ -1,13 +1,11 @@
 // A row made from the one before by what changed.
 ghost use Rattle.std.specs.Prelude.{◌≡◌, ℕ, ◌+◌, ◌<◌, ◌≤◌, ◌⊎◌, length, true, IfSome, slice_index};
-ghost use Rattle.game.specs.Fill.{Step};
-ghost use Rattle.solver.specs.Changing.{Listed, Flagged, IsWorklist, KeepsFlags, ListsChanges};
-ghost use Rattle.solver.specs.Least.{Parts};
-ghost use Rattle.solver.specs.Needs.{RightNeeds};
-ghost use Rattle.solver.specs.RowSteps.{Enough};
+ghost use Rattle.solver.specs.Entries.{never};
+ghost use Rattle.solver.specs.Inner.Changing.{Listed, Flagged, IsWorklist, KeepsFlags, ListsChanges};
+ghost use Rattle.solver.specs.Inner.Rows.{IsNext};
 
-use super::edge_table::EdgeTable;
-use hopper::{Board, Graded, Vessel};
+use super::needing::RowNeeds;
+use hopper::{Board, Graded};
 
 // Gives the row the next one's entries at the places of the list.
 pub(crate) fn take_over(row: &mut [u32], next: &[u32], list: &[u32], count: usize)
@@ -50,7 +48,7 @@ pub(crate) fn add_place(
 // Puts all places into the list, flags them, and answers how many they are.
 pub(crate) fn add_all(list: &mut [u32], flags: &mut [bool]) -> usize
     requires room { length flags.old ≤ length list.old }
-    requires fits { length flags.old ≤ 4294967296 }
+    requires fits { length flags.old ≤ never }
     ensures after { IsWorklist list.new result flags.new }
     ensures flagged { (p : ℕ) → p < length flags.new → Flagged flags.new p }
 {
@@ -61,44 +59,40 @@ pub(crate) fn add_all(list: &mut [u32], flags: &mut [bool]) -> usize
     flags.len()
 }
 
-// Makes again the entries of the places of the list, takes their flags, and lists the places where they differ from the row's: answers how many these are.
-pub(crate) fn remake<B: Board, V: Graded>(
-    table: &EdgeTable<B>,
-    vessel: &V,
-    row: &[u32],
-    needs: &[u32],
-    next: &mut [u32],
-    list: &[u32],
-    count: usize,
-    flags: &mut [bool],
-    changed: &mut [u32],
-) -> usize
-    requires needs_room { length table.now.edges.items ≤ length needs.now }
-    requires right { RightNeeds (V.Vessel.top vessel.now) (V.Vessel.table vessel.now) row.now table.now.edges.items needs.now }
-    requires row_room { (B.Board.game table.now.board.now).places ≤ length row.now }
-    requires next_room { (B.Board.game table.now.board.now).places ≤ length next.old }
-    requires list_room { count ≤ length list.now }
-    requires changed_room { count ≤ length changed.old }
-    requires inside { (i : ℕ) → i < count → slice_index list.now i < (B.Board.game table.now.board.now).places }
-    requires flags_room { (B.Board.game table.now.board.now).places ≤ length flags.old }
-    requires same { (k : ℕ) → k < (B.Board.game table.now.board.now).places → slice_index next.old k ≡ slice_index row.now k }
-    ensures made { (i : ℕ) → i < count → Parts (V.Vessel.top vessel.now) (Step (B.Board.game table.now.board.now) (V.Vessel.table vessel.now) (Enough row.now) (slice_index list.now i)) (slice_index next.new (slice_index list.now i)) }
-    ensures others { (k : ℕ) → k < (B.Board.game table.now.board.now).places → (slice_index next.new k ≡ slice_index row.now k) ⊎ Parts (V.Vessel.top vessel.now) (Step (B.Board.game table.now.board.now) (V.Vessel.table vessel.now) (Enough row.now) k) (slice_index next.new k) }
-    ensures past { (k : ℕ) → (B.Board.game table.now.board.now).places ≤ k → slice_index next.new k ≡ slice_index next.old k }
-    ensures changes { ListsChanges (B.Board.game table.now.board.now).places row.now next.new changed.new result }
-    ensures unflagged { (p : ℕ) → Flagged flags.new p → Flagged flags.old p × ¬ Listed list.now count p }
-{
-    let mut kept = 0;
-    for i in 0..count {
-        let place = list[i];
-        let at = place as usize;
-        let entry = table.next_entry(vessel, row, needs, place);
-        flags[at] = false;
-        if entry != row[at] {
-            next[at] = entry;
-            changed[kept] = place;
-            kept += 1;
+impl<B: Board, V: Graded> RowNeeds<'_, '_, B, V> {
+    // Makes again the entries of the places of the list, takes their flags, and lists the places where they differ from the row's: answers how many these are.
+    pub(crate) fn remake(
+        &self,
+        next: &mut [u32],
+        list: &[u32],
+        count: usize,
+        flags: &mut [bool],
+        changed: &mut [u32],
+    ) -> usize
+        requires next_room { (B.Board.game self.now.table.now.board.now).places ≤ length next.old }
+        requires list_room { count ≤ length list.now }
+        requires changed_room { count ≤ length changed.old }
+        requires inside { (i : ℕ) → i < count → slice_index list.now i < (B.Board.game self.now.table.now.board.now).places }
+        requires flags_room { (B.Board.game self.now.table.now.board.now).places ≤ length flags.old }
+        requires same { (k : ℕ) → k < (B.Board.game self.now.table.now.board.now).places → slice_index next.old k ≡ slice_index self.now.row.now k }
+        ensures made { (i : ℕ) → i < count → IsNext (B.Board.game self.now.table.now.board.now) (V.Graded.need self.now.vessel.now) self.now.row.now (slice_index list.now i) (slice_index next.new (slice_index list.now i)) }
+        ensures others { (k : ℕ) → k < (B.Board.game self.now.table.now.board.now).places → (slice_index next.new k ≡ slice_index self.now.row.now k) ⊎ IsNext (B.Board.game self.now.table.now.board.now) (V.Graded.need self.now.vessel.now) self.now.row.now k (slice_index next.new k) }
+        ensures past { (k : ℕ) → (B.Board.game self.now.table.now.board.now).places ≤ k → slice_index next.new k ≡ slice_index next.old k }
+        ensures changes { ListsChanges (B.Board.game self.now.table.now.board.now).places self.now.row.now next.new changed.new result }
+        ensures unflagged { (p : ℕ) → Flagged flags.new p → Flagged flags.old p × ¬ Listed list.now count p }
+    {
+        let mut kept = 0;
+        for i in 0..count {
+            let place = list[i];
+            let at = place as usize;
+            let entry = self.next_entry(place);
+            flags[at] = false;
+            if entry != self.row[at] {
+                next[at] = entry;
+                changed[kept] = place;
+                kept += 1;
+            }
         }
+        kept
     }
-    kept
 }

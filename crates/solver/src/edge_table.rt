@@ -2,7 +2,7 @@
 ghost use Rattle.std.specs.Prelude.{◌≡◌, ℕ, ◌+◌, ◌<◌, ◌≤◌, length, true, IfSome, slice_index};
 ghost use Rattle.std.specs.List.{slice_get};
 ghost use Rattle.hopper.specs.Boards.{count_at, step_at};
-ghost use Rattle.solver.specs.EdgeTable.{HasMoves, Laid};
+ghost use Rattle.solver.specs.Inner.Moves.{HasMoves, Laid};
 
 use game::{Edge, Owner};
 use hopper::Board;

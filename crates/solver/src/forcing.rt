@@ -1,10 +1,12 @@
 // Where the other side can force a run.
 ghost use Rattle.std.specs.Prelude.{◌<◌, ◌≤◌, length, IfSome};
 ghost use Rattle.solver.specs.Entries.{never, KeptFrom};
-ghost use Rattle.solver.specs.Forcing.{RoundDone, ForcedMarks, ForcedAnswers};
+ghost use Rattle.solver.specs.Inner.Marks.{RoundDone};
+ghost use Rattle.solver.specs.Forcing.{ForcedMarks, ForcedPromises};
 
 use super::NEVER;
 use super::buffer::Entries;
+use super::settling::guessed;
 use super::spreading::spread;
 use hopper::{Board, Fault, Layer, Refusal, check, pass};
 use std::alloc::Global;
@@ -54,17 +56,16 @@ fn by_spreading<B: Board>(heap: Global, board: &B, target: u32, marks: &mut [u32
     ensures marked { IfSome result (ForcedMarks (B.Board.game board.now) target marks.old marks.new) }
     ensures kept { KeptFrom (B.Board.game board.now).places marks.old marks.new }
 {
-    let places = board.places() as usize;
-    spread(heap, board, target, &mut marks[..places])?;
-    let entries = Entries {
+    guessed(
         board,
-        entries: marks,
-    };
-    entries.settled(target)
+        target,
+        marks,
+        |front| spread(heap, board, target, front),
+    )
 }
 
 // Marks the places, by rounds where spreading comes to nothing, and answers the number of rounds.
-pub(crate) fn forced_marks<B: Board>(heap: Global, board: &B, target: u32, marks: &mut [u32]) -> u32
+fn forced_marks<B: Board>(heap: Global, board: &B, target: u32, marks: &mut [u32]) -> u32
     requires target { target < (B.Board.game board.now).places }
     requires room { (B.Board.game board.now).places ≤ length marks.old }
     ensures { ForcedMarks (B.Board.game board.now) target marks.old marks.new result }
@@ -82,7 +83,7 @@ pub fn forced<B: Board>(
     target: u32,
     marks: &mut [u32],
 ) -> Result<u32, Fault>
-    ensures { ForcedAnswers (B.Board.game board.now) target marks.old marks.new result }
+    ensures { ForcedPromises (B.Board.game board.now) target marks.old marks.new result }
 {
     let places = board.places();
     // kept as it is: no plainer, the four calls that refuse a place that is not there each say so in their own table.

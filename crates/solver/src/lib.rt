@@ -12,6 +12,7 @@ mod needing;
 mod needs;
 mod origins;
 pub mod planning;
+mod preferring;
 pub mod rows;
 mod scratch;
 mod settling;

@@ -1,15 +1,15 @@
 // How long each fill holds.
-ghost use Rattle.std.specs.Prelude.{◌≡◌, ◌+◌, ◌<◌, ◌≤◌, length, min, IfOk, IfSome};
+ghost use Rattle.std.specs.Prelude.{◌≡◌, ◌+◌, ◌<◌, ◌≤◌, length, min, IfSome};
 ghost use Rattle.game.specs.Forced.{spill, unfolded};
 ghost use Rattle.game.specs.Limits.{most_fills};
 ghost use Rattle.solver.specs.Entries.{KeptFrom};
 ghost use Rattle.solver.specs.Forcing.{ForcedMarks};
-ghost use Rattle.solver.specs.Marking.{MarkAnswers, TellsFates, GoodWhereNever, NeverOrWithin, BadIsForcedWithin, OneAboveTop, EachFillHasFate, WinsLowerWeakUpperBoundWhereNever, WinsIntervalBoundWhereNever};
+ghost use Rattle.solver.specs.Marking.{MarkPromises};
 
-use super::buffer::Entries;
 use super::edge_table::EdgeTable;
-use super::forcing::forced_marks;
+use super::forcing::forced;
 use super::levels::spread_levels;
+use super::settling::guessed;
 use super::unfolded::{Unfolded, fills};
 use hopper::limits::MOST_FILLS;
 use hopper::{Board, Fault, Layer, Refusal, Vessel, check, pass};
@@ -18,7 +18,7 @@ use std::alloc::Global;
 // kept as it is: no plainer, the struct of both is `Unfolded`, which `mark` makes; were it asked of the caller, each clause would name board and vessel through its fields.
 // How many entries `mark` asks for: one for each fill and one for the spill. Where there are too many fills to mark, as many as for the most.
 pub fn marks_needed<B: Board, V: Vessel>(board: &B, vessel: &V) -> usize
-    ensures { result ≡ min (spill (B.Board.game board.now) (V.Vessel.top vessel.now)) most_fills + 1 }
+    ensures { result ≡ min (spill (B.Board.game board.now) (V.Vessel.hopper vessel.now).top) most_fills + 1 }
 {
     fills(board, vessel).min(MOST_FILLS) as usize + 1
 }
@@ -30,23 +30,19 @@ fn by_levels<B: Board, V: Vessel>(
     target: u32,
     marks: &mut [u32],
 ) -> Option<u32>
-    requires target { target < (unfolded (B.Board.game fills.now.board.now) (V.Vessel.top fills.now.vessel.now) (V.Vessel.table fills.now.vessel.now)).places }
-    requires room { (unfolded (B.Board.game fills.now.board.now) (V.Vessel.top fills.now.vessel.now) (V.Vessel.table fills.now.vessel.now)).places ≤ length marks.old }
-    ensures marked { IfSome result (ForcedMarks (unfolded (B.Board.game fills.now.board.now) (V.Vessel.top fills.now.vessel.now) (V.Vessel.table fills.now.vessel.now)) target marks.old marks.new) }
-    ensures kept { KeptFrom (unfolded (B.Board.game fills.now.board.now) (V.Vessel.top fills.now.vessel.now) (V.Vessel.table fills.now.vessel.now)).places marks.old marks.new }
+    requires target { target < (unfolded (B.Board.game fills.now.board.now) (V.Vessel.hopper fills.now.vessel.now)).places }
+    requires room { (unfolded (B.Board.game fills.now.board.now) (V.Vessel.hopper fills.now.vessel.now)).places ≤ length marks.old }
+    ensures marked { IfSome result (ForcedMarks (unfolded (B.Board.game fills.now.board.now) (V.Vessel.hopper fills.now.vessel.now)) target marks.old marks.new) }
+    ensures kept { KeptFrom (unfolded (B.Board.game fills.now.board.now) (V.Vessel.hopper fills.now.vessel.now)).places marks.old marks.new }
 {
     let table = EdgeTable::new(heap, fills.board)?;
     let fills = Unfolded {
         board: &table,
         vessel: fills.vessel,
     };
-    let places = fills.places() as usize;
-    spread_levels(heap, &table, fills.vessel, &mut marks[..places])?;
-    let entries = Entries {
-        board: &fills,
-        entries: marks,
-    };
-    entries.settled(target)
+    guessed(&fills, target, marks, |front| {
+        spread_levels(heap, &table, fills.vessel, front)
+    })
 }
 
 // Marks the fills, by the moves of the unfolded board where those of the line come to nothing, and answers the number of rounds.
@@ -56,13 +52,13 @@ fn fill_marks<B: Board, V: Vessel>(
     target: u32,
     marks: &mut [u32],
 ) -> u32
-    requires target { target < (unfolded (B.Board.game fills.now.board.now) (V.Vessel.top fills.now.vessel.now) (V.Vessel.table fills.now.vessel.now)).places }
-    requires room { (unfolded (B.Board.game fills.now.board.now) (V.Vessel.top fills.now.vessel.now) (V.Vessel.table fills.now.vessel.now)).places ≤ length marks.old }
-    ensures { ForcedMarks (unfolded (B.Board.game fills.now.board.now) (V.Vessel.top fills.now.vessel.now) (V.Vessel.table fills.now.vessel.now)) target marks.old marks.new result }
+    requires target { target < (unfolded (B.Board.game fills.now.board.now) (V.Vessel.hopper fills.now.vessel.now)).places }
+    requires room { (unfolded (B.Board.game fills.now.board.now) (V.Vessel.hopper fills.now.vessel.now)).places ≤ length marks.old }
+    ensures { ForcedMarks (unfolded (B.Board.game fills.now.board.now) (V.Vessel.hopper fills.now.vessel.now)) target marks.old marks.new result }
 {
     match by_levels(heap, fills, target, marks) {
         Some(rounds) => rounds,
-        None => forced_marks(heap, fills, target, marks),
+        None => forced(heap, fills, target, marks).unwrap(),
     }
 }
 
@@ -74,15 +70,7 @@ pub fn mark<'x, B: Board, V: Vessel>(
     vessel: &'x V,
     marks: &mut [u32],
 ) -> Result<u32, Fault>
-    ensures answer { MarkAnswers (B.Board.game board.now) (V.Vessel.top vessel.now) (V.Vessel.table vessel.now) marks.old marks.new result }
-    ensures fates { IfOk result (λ _. TellsFates (B.Board.game board.now) (V.Vessel.top vessel.now) (V.Vessel.table vessel.now) marks.new) }
-    ensures good { IfOk result (λ _. GoodWhereNever (B.Board.game board.now) (V.Vessel.top vessel.now) (V.Vessel.table vessel.now) marks.new) }
-    ensures bounded { IfOk result (NeverOrWithin (B.Board.game board.now) (V.Vessel.top vessel.now) marks.new) }
-    ensures bad { IfOk result (BadIsForcedWithin (B.Board.game board.now) (V.Vessel.top vessel.now) (V.Vessel.table vessel.now)) }
-    ensures lip { IfOk result (λ _. WinsLowerWeakUpperBoundWhereNever (B.Board.game board.now) (V.Vessel.top vessel.now) (V.Vessel.table vessel.now) marks.new) }
-    ensures closed { IfOk result (λ _. WinsIntervalBoundWhereNever (B.Board.game board.now) (V.Vessel.top vessel.now) (V.Vessel.table vessel.now) marks.new) }
-    ensures above { IfOk result (λ _. OneAboveTop (B.Board.game board.now) (V.Vessel.top vessel.now) (V.Vessel.table vessel.now)) }
-    ensures each { IfOk result (λ _. EachFillHasFate (B.Board.game board.now) (V.Vessel.top vessel.now) (V.Vessel.table vessel.now)) }
+    ensures { MarkPromises (B.Board.game board.now) (V.Vessel.hopper vessel.now) marks.old marks.new result }
 {
     let top = vessel.top();
     let count = fills(board, vessel);

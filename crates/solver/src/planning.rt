@@ -1,28 +1,35 @@
 // The move that keeps to a row.
-ghost use Rattle.std.specs.Prelude.{◌<◌};
+ghost use Rattle.std.specs.Prelude.{◌<◌, ℕ};
+ghost use Rattle.std.specs.Bool.{Decides};
+ghost use Rattle.std.specs.Option.{MatchOption};
 ghost use Rattle.hopper.specs.Boards.{count_at};
-ghost use Rattle.solver.specs.Planning.{PlanAnswers, AnswersWhereGood, PlannedRunsArePoured};
-ghost use Rattle.solver.specs.RowSteps.{FirstServing};
+ghost use Rattle.solver.specs.Entries.{entries};
+ghost use Rattle.solver.specs.Planning.{NeedsNoMore, Planned, PlanAnswers, AnswersWhereGood, PlannedRunsArePoured};
 
 use super::NEVER;
 use super::buffer::Entries;
 use game::Owner;
 use hopper::{Board, Fault, Graded, Layer, Refusal, Vessel, check, pass};
 
-// The first move of the place that needs no more than the level for its target's entry.
-fn first_serving<B: Board, V: Graded>(
-    row: &Entries<B>,
-    vessel: &V,
-    place: u32,
-    level: u32,
-) -> Option<u32>
+// Whether the place's move m needs no more than the place's entry for its target's entry.
+fn needs_no_more<B: Board, V: Graded>(row: &Entries<B>, vessel: &V, place: u32, m: u32) -> bool
+    requires place { place < (B.Board.game row.now.board.now).places }
+    requires m { m < count_at ((B.Board.game row.now.board.now).at place) }
+    ensures { Decides result (NeedsNoMore (B.Board.game row.now.board.now) (V.Vessel.hopper vessel.now) (entries row.now.entries.now) place m) }
+{
+    let entry = row.entries[place as usize];
+    entry != NEVER && row.needed(vessel, place, m) <= entry
+}
+
+// The first move of the place that needs no more than the place's entry.
+fn first_serving<B: Board, V: Graded>(row: &Entries<B>, vessel: &V, place: u32) -> Option<u32>
     requires { place < (B.Board.game row.now.board.now).places }
-    ensures { FirstServing (B.Board.game row.now.board.now) (V.Vessel.top vessel.now) (V.Vessel.table vessel.now) row.now.entries.now place level result }
+    ensures { MatchOption result ((m : ℕ) → ¬ NeedsNoMore (B.Board.game row.now.board.now) (V.Vessel.hopper vessel.now) (entries row.now.entries.now) place m) (Planned (B.Board.game row.now.board.now) (V.Vessel.hopper vessel.now) row.now.entries.now place) }
 {
     (0..row.move_count(place)).find(
         |&m|
             requires { m < count_at ((B.Board.game row.now.board.now).at place) }
-        { row.needed(vessel, place, m) <= level },
+        { needs_no_more(row, vessel, place, m) },
     )
 }
 
@@ -33,9 +40,9 @@ pub fn plan<B: Board, V: Graded>(
     row: &[u32],
     place: u32,
 ) -> Result<u32, Fault>
-    ensures answer { PlanAnswers (B.Board.game board.now) (V.Vessel.top vessel.now) (V.Vessel.table vessel.now) row.now place result }
-    ensures served { AnswersWhereGood (B.Board.game board.now) (V.Vessel.top vessel.now) (V.Vessel.table vessel.now) row.now place result }
-    ensures runs { PlannedRunsArePoured (B.Board.game board.now) (V.Vessel.top vessel.now) (V.Vessel.table vessel.now) row.now }
+    ensures answer { PlanAnswers (B.Board.game board.now) (V.Vessel.hopper vessel.now) row.now place result }
+    ensures served { AnswersWhereGood (B.Board.game board.now) (V.Vessel.hopper vessel.now) row.now place result }
+    ensures runs { PlannedRunsArePoured (B.Board.game board.now) (V.Vessel.hopper vessel.now) row.now }
 {
     let places = board.places();
     let theirs = board.owner(place) == Some(Owner::Theirs);
@@ -59,13 +66,9 @@ pub fn plan<B: Board, V: Graded>(
         layer: Layer::Rest,
         spot: place as u64,
     };
-    let entry = row[place as usize];
-    if entry == NEVER {
-        return Err(unserved);
-    }
     let row = Entries {
         board,
         entries: row,
     };
-    first_serving(&row, vessel, place, entry).ok_or(unserved)
+    first_serving(&row, vessel, place).ok_or(unserved)
 }

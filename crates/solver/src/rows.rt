@@ -1,10 +1,14 @@
 // The least fills that hold, row by row.
-ghost use Rattle.std.specs.Prelude.{◌≡◌, ◌≤◌, length, IfOk};
-ghost use Rattle.solver.specs.Least.{LeastAnswers, HoldsLeastGood, GoodFrom, WinsLowerWeakUpperBoundFrom, HoldsLeastWithoutLip, HoldsLeastLowerBound, NeverGivesUp};
-ghost use Rattle.solver.specs.RowSteps.{NextRow, keeps_changing, RowsAnswer};
+ghost use Rattle.std.specs.Prelude.{◌≡◌, ◌≤◌, length};
+ghost use Rattle.hopper.specs.Faults.{fault};
+ghost use Rattle.hopper.specs.declared.Layer.TheVariants.{Rest};
+ghost use Rattle.hopper.specs.declared.Refusal.TheVariants.{RowsKeepChanging};
+ghost use Rattle.solver.specs.Least.{LeastPromises};
+ghost use Rattle.solver.specs.Inner.Rows.{NextRow, RowsAnswer};
 
 use super::buffer::Entries;
-use super::changing::{add_all, remake, take_over};
+use super::changing::{add_all, take_over};
+use super::needing::RowNeeds;
 use super::needs::fill_needs;
 use super::origins::Origins;
 use super::scratch::Scratch;
@@ -15,7 +19,7 @@ use std::alloc::Global;
 fn next_row<B: Board, V: Graded>(board: &B, vessel: &V, row: &[u32], next: &mut [u32])
     requires row_room { (B.Board.game board.now).places ≤ length row.now }
     requires next_room { (B.Board.game board.now).places ≤ length next.old }
-    ensures { NextRow (B.Board.game board.now) (V.Vessel.top vessel.now) (V.Vessel.table vessel.now) (B.Board.game board.now).places row.now next.old next.new }
+    ensures { NextRow (B.Board.game board.now) (V.Graded.need vessel.now) (B.Board.game board.now).places row.now next.old next.new }
 {
     let entries = Entries {
         board,
@@ -29,7 +33,7 @@ fn next_row<B: Board, V: Graded>(board: &B, vessel: &V, row: &[u32], next: &mut 
 
 // The fault of rows that still change where the budget is used up.
 fn keeps_changing(budget: u64) -> Fault
-    ensures { result ≡ keeps_changing budget }
+    ensures { result ≡ fault RowsKeepChanging Rest budget }
 {
     Fault {
         refusal: Refusal::RowsKeepChanging,
@@ -48,7 +52,7 @@ fn whole_rows<B: Board, V: Graded>(
 ) -> Result<u64, Fault>
     requires row_room { (B.Board.game board.now).places ≤ length row.old }
     requires next_room { (B.Board.game board.now).places ≤ length next.old }
-    ensures { RowsAnswer (B.Board.game board.now) (V.Vessel.top vessel.now) (V.Vessel.table vessel.now) row.old row.new next.old next.new budget result }
+    ensures { RowsAnswer (B.Board.game board.now) (V.Vessel.hopper vessel.now) row.old row.new next.old next.new budget result }
 {
     let count = board.places() as usize;
     row[..count].fill(0);
@@ -73,26 +77,33 @@ fn changed_rows<B: Board, V: Graded>(
     row: &mut [u32],
     next: &mut [u32],
     budget: u64,
-    changed: &mut [u32],
-    list: &mut [u32],
-    flags: &mut [bool],
-    needs: &mut [u32],
+    scratch: &mut Scratch,
 ) -> Result<u64, Fault>
-    requires needs_room { length origins.now.table.edges.items ≤ length needs.old }
+    requires needs_room { length origins.now.table.edges.items ≤ length scratch.old.needs.items }
     requires row_room { (B.Board.game origins.now.table.board.now).places ≤ length row.old }
     requires next_room { (B.Board.game origins.now.table.board.now).places ≤ length next.old }
-    requires flags { (B.Board.game origins.now.table.board.now).places ≡ length flags.old }
-    requires list_room { length flags.old ≤ length list.old }
-    requires changed_room { length list.old ≤ length changed.old }
-    ensures { RowsAnswer (B.Board.game origins.now.table.board.now) (V.Vessel.top vessel.now) (V.Vessel.table vessel.now) row.old row.new next.old next.new budget result }
+    requires flags { (B.Board.game origins.now.table.board.now).places ≡ length scratch.old.flags.items }
+    requires list_room { length scratch.old.flags.items ≤ length scratch.old.list.items }
+    requires changed_room { length scratch.old.list.items ≤ length scratch.old.changed.items }
+    ensures { RowsAnswer (B.Board.game origins.now.table.board.now) (V.Vessel.hopper vessel.now) row.old row.new next.old next.new budget result }
 {
+    let changed = scratch.changed.as_mut_slice();
+    let list = scratch.list.as_mut_slice();
+    let flags = scratch.flags.as_mut_slice();
+    let needs = scratch.needs.as_mut_slice();
     let table = &origins.table;
     let count = flags.len();
     row[..count].fill(0);
     next[..count].fill(0);
     fill_needs(vessel, row, &table.edges, needs);
     let all = add_all(list, flags);
-    let mut changes = remake(table, vessel, row, needs, next, list, all, flags, changed);
+    let begun = RowNeeds {
+        table,
+        vessel,
+        row,
+        needs,
+    };
+    let mut changes = begun.remake(next, list, all, flags, changed);
     let mut rounds = 0;
     while changes > 0 {
         if rounds == budget {
@@ -102,7 +113,13 @@ fn changed_rows<B: Board, V: Graded>(
         let most = origins.lead_most(changed, changes);
         origins.refresh_all(vessel, row, changed, changes, most, needs);
         let again = origins.list_again(changed, changes, most, list, flags);
-        changes = remake(table, vessel, row, needs, next, list, again, flags, changed);
+        let reached = RowNeeds {
+            table,
+            vessel,
+            row,
+            needs,
+        };
+        changes = reached.remake(next, list, again, flags, changed);
         rounds += 1;
     }
     Ok(rounds)
@@ -119,7 +136,7 @@ fn made_rows<B: Board, V: Graded>(
 ) -> Result<u64, Fault>
     requires row_room { (B.Board.game board.now).places ≤ length row.old }
     requires next_room { (B.Board.game board.now).places ≤ length next.old }
-    ensures { RowsAnswer (B.Board.game board.now) (V.Vessel.top vessel.now) (V.Vessel.table vessel.now) row.old row.new next.old next.new budget result }
+    ensures { RowsAnswer (B.Board.game board.now) (V.Vessel.hopper vessel.now) row.old row.new next.old next.new budget result }
 {
     let Some(origins) = Origins::new(heap, board) else {
         return whole_rows(board, vessel, row, next, budget);
@@ -127,17 +144,7 @@ fn made_rows<B: Board, V: Graded>(
     let Some(mut scratch) = Scratch::new(heap, board.places(), origins.table.edges.len()) else {
         return whole_rows(board, vessel, row, next, budget);
     };
-    changed_rows(
-        &origins,
-        vessel,
-        row,
-        next,
-        budget,
-        &mut scratch.changed,
-        &mut scratch.list,
-        &mut scratch.flags,
-        &mut scratch.needs,
-    )
+    changed_rows(&origins, vessel, row, next, budget, &mut scratch)
 }
 
 // Fills both buffers with the first row that is the next one too, which is that of the least good fills, and answers its number.
@@ -150,13 +157,7 @@ pub fn least<B: Board, V: Graded>(
     next: &mut [u32],
     budget: u64,
 ) -> Result<u64, Fault>
-    ensures answer { LeastAnswers (B.Board.game board.now) (V.Vessel.top vessel.now) (V.Vessel.table vessel.now) row.old row.new next.old next.new budget result }
-    ensures good { IfOk result (λ _. HoldsLeastGood (B.Board.game board.now) (V.Vessel.table vessel.now) row.new) }
-    ensures parted { IfOk result (λ _. GoodFrom (B.Board.game board.now) (V.Vessel.top vessel.now) (V.Vessel.table vessel.now) row.new) }
-    ensures lip { IfOk result (λ _. WinsLowerWeakUpperBoundFrom (B.Board.game board.now) (V.Vessel.table vessel.now) row.new) }
-    ensures lipless { IfOk result (λ _. HoldsLeastWithoutLip (B.Board.game board.now) (V.Vessel.table vessel.now) row.new) }
-    ensures lower { IfOk result (λ _. HoldsLeastLowerBound (B.Board.game board.now) (V.Vessel.table vessel.now) row.new) }
-    ensures soon { NeverGivesUp (B.Board.game board.now) (V.Vessel.top vessel.now) budget result }
+    ensures { LeastPromises (B.Board.game board.now) (V.Vessel.hopper vessel.now) row.old row.new next.old next.new budget result }
 {
     let places = board.places();
     let count = places as usize;

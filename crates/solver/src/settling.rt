@@ -1,14 +1,26 @@
 // Whether marks settle: one pass over a board that looks at each mark beside those that its place's moves lead to.
-ghost use Rattle.std.specs.Prelude.{◌≡◌, ℕ, ◌<◌, ◌≤◌, List, IfSome};
+ghost use Rattle.std.specs.Prelude.{◌≡◌, ℕ, ◌<◌, ◌≤◌, List, length, IfSome};
+ghost use Rattle.game.specs.Forced.{foe};
 ghost use Rattle.hopper.specs.Boards.{count_at};
 ghost use Rattle.solver.specs.Entries.{KeptFrom};
 ghost use Rattle.solver.specs.Forcing.{ForcedMarks};
-ghost use Rattle.solver.specs.Settling.{LeadsToMark, IsBest, IsDue};
+ghost use Rattle.solver.specs.Inner.Marks.{LeadsToMark, IsBest, IsDue};
 
 use super::NEVER;
 use super::buffer::Entries;
+use super::preferring::preferred;
 use game::Owner;
 use hopper::Board;
+
+// The other of the two who choose. Marks are preferred by it as other numbers are by the owner: we want marks high.
+fn foe(owner: Owner) -> Owner
+    ensures { result ≡ foe owner }
+{
+    match owner {
+        Owner::Ours => Owner::Theirs,
+        Owner::Theirs => Owner::Ours,
+    }
+}
 
 impl<B: Board> Entries<'_, B> {
     // The mark that the place's move m leads to.
@@ -20,44 +32,18 @@ impl<B: Board> Entries<'_, B> {
         self.entries[self.move_at(place, m).target as usize]
     }
 
-    // The largest of the marks that the place's moves lead to.
-    fn highest(&self, place: u32, count: u32) -> u32
-        requires count { count ≡ count_at ((B.Board.game self.now.board.now).at place) }
-        requires some { 1 ≤ count }
-        ensures all { (m : ℕ) → m < count → (n : ℕ) × LeadsToMark (B.Board.game self.now.board.now) self.now.entries.now place m n × (n ≤ result) }
-        ensures one { (m : ℕ) × LeadsToMark (B.Board.game self.now.board.now) self.now.entries.now place m result }
-    {
-        let mut highest = self.mark_led(place, 0);
-        for m in 1..count {
-            highest = highest.max(self.mark_led(place, m));
-        }
-        highest
-    }
-
-    // The least of the marks that the place's moves lead to.
-    fn lowest(&self, place: u32, count: u32) -> u32
-        requires count { count ≡ count_at ((B.Board.game self.now.board.now).at place) }
-        requires some { 1 ≤ count }
-        ensures all { (m : ℕ) → m < count → (n : ℕ) × LeadsToMark (B.Board.game self.now.board.now) self.now.entries.now place m n × (result ≤ n) }
-        ensures one { (m : ℕ) × LeadsToMark (B.Board.game self.now.board.now) self.now.entries.now place m result }
-    {
-        let mut lowest = self.mark_led(place, 0);
-        for m in 1..count {
-            lowest = lowest.min(self.mark_led(place, m));
-        }
-        lowest
-    }
-
-    // The largest of the marks that the moves of a place lead to where the place is ours, the least where it is theirs.
+    // The highest of the marks that the moves of a place lead to where the place is ours, the lowest where it is theirs.
     fn best(&self, place: u32) -> u32
         requires { place < (B.Board.game self.now.board.now).places }
         ensures { IsBest (B.Board.game self.now.board.now) self.now.entries.now place result }
     {
-        let count = self.move_count(place);
-        match self.owner(place) {
-            Owner::Ours => self.highest(place, count),
-            Owner::Theirs => self.lowest(place, count),
-        }
+        preferred(
+            foe(self.owner(place)),
+            self.move_count(place),
+            |m|
+                requires { m < count_at ((B.Board.game self.now.board.now).at place) }
+            { self.mark_led(place, m) },
+        )
     }
 
     // The mark that is due at a place.
@@ -90,4 +76,26 @@ impl<B: Board> Entries<'_, B> {
         }
         (rounds < places).then_some(rounds)
     }
+}
+
+// Has the marks of all places guessed, and answers the number of rounds if they were guessed and settle.
+pub(crate) fn guessed<B: Board, F: FnOnce(&mut [u32]) -> Option<()>>(
+    board: &B,
+    target: u32,
+    marks: &mut [u32],
+    guess: F,
+) -> Option<u32>
+    requires target { target < (B.Board.game board.now).places }
+    requires room { (B.Board.game board.now).places ≤ length marks.old }
+    requires callable { F.IsAlwaysCallable guess }
+    ensures marked { IfSome result (ForcedMarks (B.Board.game board.now) target marks.old marks.new) }
+    ensures kept { KeptFrom (B.Board.game board.now).places marks.old marks.new }
+{
+    let places = board.places() as usize;
+    guess(&mut marks[..places])?;
+    let entries = Entries {
+        board,
+        entries: marks,
+    };
+    entries.settled(target)
 }

@@ -1,8 +1,8 @@
 // From the places that changed back to those with a move to one of them.
 ghost use Rattle.std.specs.Prelude.{◌≡◌, ℕ, ◌<◌, ◌≤◌, ◌⊎◌, length, IfSome, slice_index};
-ghost use Rattle.solver.specs.Changing.{Flagged, IsWorklist, KeepsFlags};
-ghost use Rattle.solver.specs.Needs.{RightNeed, RefreshesPart};
-ghost use Rattle.solver.specs.Origins.{IsSource, FlagsSources};
+ghost use Rattle.solver.specs.Inner.Changing.{Flagged, IsWorklist, KeepsFlags};
+ghost use Rattle.solver.specs.Inner.Rows.{RightNeed, RefreshesPart};
+ghost use Rattle.solver.specs.Inner.Moves.{IsSource, FlagsSources};
 
 use super::changing::{add_all, add_place};
 use super::needs::fill_needs;
@@ -127,8 +127,8 @@ impl<B: Board> Origins<'_, B> {
         requires inside { (i : ℕ) → i < changes → slice_index changed.now i < (B.Board.game self.now.table.board.now).places }
         requires row_room { (B.Board.game self.now.table.board.now).places ≤ length row.now }
         requires room { length self.now.table.edges.items ≤ length needs.old }
-        ensures parts { (i : ℕ) → i < changes → RefreshesPart (V.Vessel.top vessel.now) (V.Vessel.table vessel.now) row.now self.now.table.edges.items self.now.arcs.begins.items self.now.arcs.numbers.items self.now.arcs.slots.items (slice_index changed.now i) needs.new }
-        ensures rest { (k : ℕ) → (slice_index needs.new k ≡ slice_index needs.old k) ⊎ RightNeed (V.Vessel.top vessel.now) (V.Vessel.table vessel.now) row.now self.now.table.edges.items needs.new k }
+        ensures parts { (i : ℕ) → i < changes → RefreshesPart (V.Graded.need vessel.now) row.now self.now.table.edges.items self.now.arcs.begins.items self.now.arcs.numbers.items self.now.arcs.slots.items (slice_index changed.now i) needs.new }
+        ensures rest { (k : ℕ) → (slice_index needs.new k ≡ slice_index needs.old k) ⊎ RightNeed (V.Graded.need vessel.now) row.now self.now.table.edges.items needs.new k }
     {
         let edges = self.table.edges.as_slice();
         if most {

@@ -2,7 +2,7 @@
 ghost use Rattle.std.specs.Prelude.{◌≡◌};
 ghost use Rattle.game.specs.Forced.{spill, unfolded};
 ghost use Rattle.game.proofs.Unfold.{unfolded_is_well_formed};
-ghost use Rattle.solver.specs.Unfolding.{spill_number};
+ghost use Rattle.solver.specs.Inner.Marks.{spill_number};
 
 use game::{Edge, Owner};
 use hopper::limits::MOST_FILLS;
@@ -17,7 +17,7 @@ pub struct Unfolded<'a, B: Board, V: Vessel> {
 
 // How many fills there are up to the top, at all places together.
 pub fn fills<B: Board, V: Vessel>(board: &B, vessel: &V) -> u64
-    ensures { result ≡ spill (B.Board.game board.now) (V.Vessel.top vessel.now) }
+    ensures { result ≡ spill (B.Board.game board.now) (V.Vessel.hopper vessel.now).top }
 {
     board.places() as u64 * (vessel.top() as u64 + 1)
 }
@@ -25,7 +25,7 @@ pub fn fills<B: Board, V: Vessel>(board: &B, vessel: &V) -> u64
 impl<B: Board, V: Vessel> Unfolded<'_, B, V> {
     // How many fills there are, 0 where they are too many. It is the number of the spill.
     fn spill(&self) -> u32
-        ensures { result ≡ spill_number (B.Board.game self.now.board.now) (V.Vessel.top self.now.vessel.now) }
+        ensures { result ≡ spill_number (B.Board.game self.now.board.now) (V.Vessel.hopper self.now.vessel.now).top }
     {
         let count = fills(self.board, self.vessel);
         if count <= MOST_FILLS { count as u32 } else { 0 }
@@ -33,9 +33,9 @@ impl<B: Board, V: Vessel> Unfolded<'_, B, V> {
 }
 
 impl<B: Board, V: Vessel> Board for Unfolded<'_, B, V> {
-    ghost game = { λ u. unfolded (B.Board.game u.board.now) (V.Vessel.top u.vessel.now) (V.Vessel.table u.vessel.now) };
+    ghost game = { λ u. unfolded (B.Board.game u.board.now) (V.Vessel.hopper u.vessel.now) };
 
-    ghost formed = { λ u. unfolded_is_well_formed (B.Board.game u.board.now) (B.Board.formed u.board.now) (V.Vessel.top u.vessel.now) (V.Vessel.table u.vessel.now) (V.Vessel.keeps u.vessel.now) };
+    ghost formed = { λ u. unfolded_is_well_formed (B.Board.game u.board.now) (B.Board.formed u.board.now) (V.Vessel.hopper u.vessel.now) (V.Vessel.keeps u.vessel.now) };
 
     fn places(&self) -> u32 {
         self.spill() + 1

@@ -1,12 +1,13 @@
 -- A board and a vessel that a buyer makes: their meanings, and that they keep the rules.
 use Rattle.std.specs.Prelude.{◌≡◌, ℕ, zero, suc, ◌<◌, ◌≤◌, [], ◌∷◌, negsuc, Some, None, Option, unsigned_abs, refl}
-use Rattle.std.proofs.Common.{arith, lit≤}
+use Rattle.std.proofs.Common.{sym, subst, lit≤, le_of_suc-le-suc, not-suc-le-zero, zero-le}
 use Rattle.std.specs.List.{slice_get}
 use Rattle.game.specs.declared.Edge.{Edge}
 use Rattle.game.specs.declared.Owner.TheVariants.{Theirs}
 use Rattle.game.specs.Game.{Game, Place, SoundPlace, WellFormed}
-use Rattle.game.specs.Limits.{most_top}
-use Rattle.game.specs.Vessel.{Table, Keeps, up_to}
+use Rattle.game.specs.Limits.{most_top, most_amount}
+use Rattle.game.specs.Vessel.{Hopper, Keeps, up_to}
+use Rattle.game.proofs.Base.{none_some, some_inj}
 use Rattle.game.proofs.Vessels.{keeps_up_to}
 
 -- one place of theirs, with a move to itself that takes a litre out
@@ -22,10 +23,11 @@ leak_at (suc p) = None
 abbrev pub leak_game : Game
 leak_game = record { places = 1; at = leak_at }
 
-only_leak : (m : ℕ) (e : Edge) → slice_get (leak ∷ []) m ≡ Some e → e ≡ leak
-only_leak zero e h = cc
-only_leak (suc m) e h = let z : ◌≡◌ {A = ℕ} 0 1 = cc in absurd (omega arith)
+only_leak : (m : ℕ) (e : Edge) → slice_get (leak ∷ []) m ≡ Some e → leak ≡ e
+only_leak zero e h = some_inj h
+only_leak (suc m) e h = absurd (none_some h)
 
+-- it keeps the rules of games
 pub leak_formed : WellFormed leak_game
 leak_formed =
     record {
@@ -38,23 +40,26 @@ leak_formed =
     sound : SoundPlace leak_game (record { owner = Theirs; moves = leak ∷ [] })
     sound =
         record {
-          some_move = lit≤ tt;
-          few_moves = lit≤ tt;
-          targets = λ m e x. (let z : e ≡ leak = only_leak m e x in let t : e.target ≡ 0 = cc in omega arith);
-          amounts = λ m e x. (let z : e ≡ leak = only_leak m e x in let t : unsigned_abs e.amount ≡ 1 = cc in omega arith);
+          sound = record {
+            some_move = lit≤ tt;
+            few_moves = lit≤ tt;
+            targets = λ m e x. subst (λ (y : Edge). y.target < 1) (only_leak m e x) (lit≤ tt);
+          };
+          amounts = λ m e x. subst (λ (y : Edge). unsigned_abs y.amount ≤ most_amount) (only_leak m e x) (lit≤ tt);
         }
 
     here : (p : ℕ) → p < 1 → (q : Place) × (leak_at p ≡ Some q) × SoundPlace leak_game q
     here zero h = (record { owner = Theirs; moves = leak ∷ [] }, refl, sound)
-    here (suc p) h = absurd (omega arith)
+    here (suc p) h = absurd (not-suc-le-zero (le_of_suc-le-suc h))
 
     gone : (p : ℕ) → 1 ≤ p → leak_at p ≡ None
-    gone zero h = absurd (omega arith)
+    gone zero h = absurd (not-suc-le-zero h)
     gone (suc p) h = refl
 
 -- a sieve: whatever is poured, nothing is left
-abbrev pub sieve : ℕ → Table
-sieve top = up_to top (λ c a. Some 0)
+abbrev pub sieve : ℕ → Hopper
+sieve top = record { top = top; table = up_to top (λ c a. Some 0) }
 
-pub sieve_keeps : (top : ℕ) → top ≤ most_top → Keeps top (sieve top)
-sieve_keeps top fits = keeps_up_to top (λ c a. Some 0) fits (λ c a d h. let z : d ≡ 0 = cc in omega arith)
+-- it keeps the rules of vessels
+pub sieve_keeps : (top : ℕ) → top ≤ most_top → Keeps (sieve top)
+sieve_keeps top fits = keeps_up_to top (λ c a. Some 0) fits (λ c a d h. subst (λ (x : ℕ). x ≤ top) (some_inj h) zero-le)

@@ -53,9 +53,7 @@ impl Sieve {
 }
 
 impl Vessel for Sieve {
-    ghost top = { λ v. v.top };
-
-    ghost table = { λ v. sieve v.top };
+    ghost hopper = { λ v. sieve v.top };
 
     ghost keeps = { λ v. sieve_keeps v.top v.fits };
 

@@ -136,9 +136,9 @@ fn a_file_from_a_reader(rt: HostRuntime) -> Result<(), Fail> {
 #[test]
 fn what_the_pit_holds(rt: HostRuntime) -> Result<(), Fail> {
     let mut line = FileLine::built_in();
-    assert_eq!(rt; line.places(), 1);
+    assert_eq!(rt; line.place_count(), 1);
     assert_eq!(rt;
-        line.place(0),
+        line.place_record(0),
         Some(PlaceRecord {
             owner: 0,
             letters: 0,
@@ -146,44 +146,44 @@ fn what_the_pit_holds(rt: HostRuntime) -> Result<(), Fail> {
         })
     );
     assert_eq!(rt;
-        line.step(0),
+        line.move_record(0),
         Some(MoveRecord {
             target: 0,
             amount: 0,
         })
     );
     line.read(PIT)?;
-    assert_eq!(rt; line.places(), 2);
-    assert_eq!(rt; line.moves(), 2);
+    assert_eq!(rt; line.place_count(), 2);
+    assert_eq!(rt; line.move_count(), 2);
     assert_eq!(rt; line.kind(), Kind::Lip);
     assert_eq!(rt; line.top(), 6);
     assert_eq!(rt; line.draw(), 0);
     assert_eq!(rt;
-        line.place(1),
+        line.place_record(1),
         Some(PlaceRecord {
             owner: 0,
             letters: 5,
             moves: 1,
         })
     );
-    assert_eq!(rt; line.place(2), None);
+    assert_eq!(rt; line.place_record(2), None);
     assert_eq!(rt;
-        line.step(1),
+        line.move_record(1),
         Some(MoveRecord {
             target: 0,
             amount: -5,
         })
     );
-    assert_eq!(rt; line.step(2), None);
+    assert_eq!(rt; line.move_record(2), None);
     assert_eq!(rt;
-        line.step_of(1, 0),
+        line.move_record_of(1, 0),
         Some(MoveRecord {
             target: 0,
             amount: -5,
         })
     );
-    assert_eq!(rt; line.step_of(1, 1), None);
-    assert_eq!(rt; line.step_of(2, 0), None);
+    assert_eq!(rt; line.move_record_of(1, 1), None);
+    assert_eq!(rt; line.move_record_of(2, 0), None);
     Ok(())
 }
 
@@ -192,11 +192,11 @@ fn names_are_parts_of_the_file(rt: HostRuntime) -> Result<(), Fail> {
     let mut line = FileLine::built_in();
     let first = line.name(0).ok_or("no place")?;
     assert_eq!(rt; first.offset, 0);
-    assert!(rt; first.letters.is_empty());
+    assert!(rt; first.text.is_empty());
     line.read(PIT)?;
     let press = line.name(1).ok_or("no place")?;
     assert_eq!(rt; press.offset, 3);
-    assert!(rt; press.letters == b"press".as_slice());
+    assert!(rt; press.text == "press");
     assert!(rt; line.names() == b"pitpress".as_slice());
     assert!(rt; line.name(2).is_none());
     Ok(())
@@ -212,7 +212,7 @@ fn a_refused_file_leaves_the_line(rt: HostRuntime) -> Result<(), Fail> {
         spot: 3,
     };
     assert_eq!(rt; line.read(b"pit"), Err(fault));
-    assert_eq!(rt; line.places(), 2);
+    assert_eq!(rt; line.place_count(), 2);
     assert_eq!(rt; line.top(), 6);
     Ok(())
 }

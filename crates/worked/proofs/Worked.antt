@@ -15,20 +15,20 @@ use Rattle.worked.specs.Worked.{Worked}
 
 -- ---- the plan of Q
 -- an empty hopper does not pour 3 litres out
-not_empty : (wanted : ℕ) → ¬ Reaches (lip 10) wanted (negsuc 2) 0
+not_empty : (wanted : ℕ) → ¬ Reaches (lip 10).table wanted (negsuc 2) 0
 not_empty wanted r = none_some r.1
 
 -- move 0 takes 3 litres out, and the entry is 0
-not_first : ¬ NeedsNoMore line_q 10 (lip 10) (entries (0 ∷ 2 ∷ [])) 0 0
+not_first : ¬ NeedsNoMore line_q (lip 10) (entries (0 ∷ 2 ∷ [])) 0 0
 not_first n =
     let e : to 1 (negsuc 2) ≡ n.move = some_inj n.is_move in
     let has : 0 ≡ n.has = some_inj n.entry in
     let small : n.needed ≤ 0 = omega (arith, n.enough) in
-    let reach : Reaches (lip 10) n.wanted n.move.amount 0 = n.need.1 0 small (omega arith) in
-    not_empty n.wanted (subst (λ (m : Edge). Reaches (lip 10) n.wanted m.amount 0) (sym e) reach)
+    let reach : Reaches (lip 10).table n.wanted n.move.amount 0 = n.need.1 0 small (omega arith) in
+    not_empty n.wanted (subst (λ (m : Edge). Reaches (lip 10).table n.wanted m.amount 0) (sym e) reach)
 
 -- move 1 pours 2 litres in and comes back
-second : NeedsNoMore line_q 10 (lip 10) (entries (0 ∷ 2 ∷ [])) 0 1
+second : NeedsNoMore line_q (lip 10) (entries (0 ∷ 2 ∷ [])) 0 1
 second =
     record {
       move = to 0 (pos 2);
@@ -42,16 +42,16 @@ second =
       enough = omega arith;
     }
 
-planned : Planned line_q 10 (lip 10) (0 ∷ 2 ∷ []) 0 1
+planned : Planned line_q (lip 10) (0 ∷ 2 ∷ []) 0 1
 planned = record { serves = second; first = before }
   where
-    before : (k : ℕ) → k < 1 → ¬ NeedsNoMore line_q 10 (lip 10) (entries (0 ∷ 2 ∷ [])) 0 k
+    before : (k : ℕ) → k < 1 → ¬ NeedsNoMore line_q (lip 10) (entries (0 ∷ 2 ∷ [])) 0 k
     before zero lt = not_first
     before (suc k) lt = absurd (omega arith)
 
 -- ---- the beliefs
 -- the pit, closed at 6, is marked 1 at 2 litres
-not_at_two : ¬ Good line_p (closed 6) 0 2
+not_at_two : ¬ Good line_p (closed 6).table 0 2
 not_at_two good = worked_cases.p_closed.0.1.1.0.0 (good 1)
 
 not_one_two : ¬ GoodAtOneIsGoodAtTwo

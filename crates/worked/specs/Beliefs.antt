@@ -8,9 +8,9 @@ use Rattle.game.specs.Fill.{Good, LeastGood}
 -- a closed hopper that is good at 1 litre is good at 2
 abbrev pub GoodAtOneIsGoodAtTwo : Type 0
 GoodAtOneIsGoodAtTwo =
-    (g : Game) (top p : ℕ) → WellFormed g → 2 ≤ top → top ≤ most_top → p < g.places → Good g (closed top) p 1 → Good g (closed top) p 2
+    (g : Game) (top p : ℕ) → WellFormed g → 2 ≤ top → top ≤ most_top → p < g.places → Good g (closed top).table p 1 → Good g (closed top).table p 2
 
--- a lip one litre below the drop sum is as good as no lip: each place has the same least good fill
+-- of the drop sum a litre may be missing: a lip that much lower gives each place the least good fill that it has where nothing runs over
 abbrev pub LipBelowDropSumIsNoLip : Type 0
 LipBelowDropSumIsNoLip =
-    (g : Game) (b p : ℕ) (o : Option ℕ) → WellFormed g → b + 1 ≡ drop_sum g → p < g.places → LeastGood g unlimited p o → LeastGood g (lip b) p o
+    (g : Game) (b p : ℕ) (o : Option ℕ) → WellFormed g → b + 1 ≡ drop_sum g → p < g.places → LeastGood g unlimited p o → LeastGood g (lip b).table p o

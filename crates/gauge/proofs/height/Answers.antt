@@ -1,4 +1,3 @@
--- What is left to show of `height`.
 use Rattle.std.proofs.Common.{◌+◌, ◌/◌, arith}
 use Rattle.gauge.proofs.Rising.{rising}
 use Rattle.gauge.proofs.height.Goals as goal

@@ -1,4 +1,3 @@
--- Invariants and measures of `height`.
 use Rattle.std.proofs.Common.{ℕ, ◌-◌, ◌<◌, ◌≤◌}
 use Rattle.gauge.specs.Gauge.{most_height, litres}
 use Rattle.gauge.proofs.height.Given as goal

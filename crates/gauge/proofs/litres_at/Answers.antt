@@ -1,4 +1,3 @@
--- What is left to show of `litres_at`.
 use Rattle.std.proofs.Common.{◌*◌, arith}
 use Rattle.std.proofs.lemmas.Nat.{mul-le}
 use Rattle.gauge.specs.Gauge.{most_height}

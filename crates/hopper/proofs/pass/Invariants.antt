@@ -1,4 +1,3 @@
--- Invariants and measures of `pass`.
 use Rattle.std.proofs.Common.{◌≡◌, drop}
 use Rattle.hopper.specs.Refusing.{verdict}
 use Rattle.hopper.proofs.pass.Given as goal

@@ -1,4 +1,3 @@
--- What is left to show of `write_again`.
 use Rattle.std.proofs.Common.{◌≡◌, ℕ, ◌-◌, List, ◌++◌, length, take, drop, is_ok, Ok, Err, Result, sym, refl, ap, ◌∙◌, arith, rules, MatchResult}
 use Rattle.hopper.specs.declared.Fault.{Fault}
 use Rattle.hopper.specs.Refusing.{refuse, if_accepted}
@@ -9,19 +8,19 @@ use Rattle.lineformat.specs.Format.{Line, encode}
 use Rattle.lineformat.specs.Checks.{write_checks}
 use Rattle.lineformat.proofs.Encoded.{same_line}
 use Rattle.lineformat.proofs.Sound.{tables_fit}
-use Rattle.linefile.specs.Held.{file_of, held, retabled}
+use Rattle.linefile.specs.Held.{file_of, line_held, retabled}
 use Rattle.linecheck.proofs.write_again.Goals as goal
 
 pub slice_bounds-tables-end : goal.slice_bounds-tables-end
 slice_bounds-tables-end c =
-    let f = tables_fit (held c.args.line.now) (length c.args.places.now) (length c.args.moves.now) (ap is_ok (sym c.in_ok-unpack.ensures.answer)) in
-    let n = c.places-n.ensures in
+    let f = tables_fit (line_held c.args.line.now) (length c.args.places.now) (length c.args.moves.now) (ap is_ok (sym c.in_ok-unpack.ensures.answer)) in
+    let n = c.place_count-n.ensures in
     search rules
 
 pub slice_bounds-tables-end-2 : goal.slice_bounds-tables-end-2
 slice_bounds-tables-end-2 c =
-    let f = tables_fit (held c.args.line.now) (length c.args.places.now) (length c.args.moves.now) (ap is_ok (sym c.in_ok-unpack.ensures.answer)) in
-    let m = c.moves-m.ensures in
+    let f = tables_fit (line_held c.args.line.now) (length c.args.places.now) (length c.args.moves.now) (ap is_ok (sym c.in_ok-unpack.ensures.answer)) in
+    let m = c.move_count-m.ensures in
     search rules
 
 -- the line of the tables is the line of the file
@@ -42,9 +41,9 @@ rewritten file out out' l (Err f) e a w = w
 
 pub returns : goal.returns
 returns c =
-    let l = held c.args.line.now in
+    let l = line_held c.args.line.now in
     let ps = c.unpack.new.places in
     let ms = c.unpack.new.moves in
-    let m : Line = record { places = take (c.places-n.result - 0) ps; moves = take (c.moves-m.result - 0) ms; names = c.names.result.now; kind = c.number.result; top = c.top.result; draw = c.draw.result } in
-    let s : m ≡ retabled l ps ms = same_tables l m c.places-n.result c.moves-m.result c.places-n.ensures c.moves-m.ensures ps ms refl refl c.names.ensures (c.number.ensures ∙ c.kind.ensures) c.top.ensures c.draw.ensures in
+    let m : Line = record { places = take (c.place_count-n.result - 0) ps; moves = take (c.move_count-m.result - 0) ms; names = c.names.result.now; kind = c.number.result; top = c.top.result; draw = c.draw.result } in
+    let s : m ≡ retabled l ps ms = same_tables l m c.place_count-n.result c.move_count-m.result c.place_count-n.ensures c.move_count-m.ensures ps ms refl refl c.names.ensures (c.number.ensures ∙ c.kind.ensures) c.top.ensures c.draw.ensures in
     rewritten (file_of c.args.line.now) c.args.out.now c.write.new.out m c.write.result (ap encode s ∙ (c.in_ok-unpack.ensures.again refl).1) c.write.ensures.answer c.write.ensures.written

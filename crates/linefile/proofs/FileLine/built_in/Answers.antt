@@ -1,18 +1,17 @@
--- What is left to show of `built_in`.
 use Rattle.std.proofs.Common.{◌≡◌, ℕ, true, List, is_ok, Ok, Err, Result, sym, refl, ap, ◌∙◌, subst, rules}
 use Rattle.std.specs.Result.{IsOk}
 use Rattle.std.proofs.lemmas.Bool.{false≢true}
 use Rattle.hopper.specs.declared.Fault.{Fault}
 use Rattle.hopper.specs.Refusing.{Answers}
 use Rattle.lineformat.specs.Format.{line_of}
-use Rattle.lineformat.specs.Checks.{accepts, read_checks, trailer_checks, size_checks, version_checks, number_checks, distance_checks, record_checks}
+use Rattle.lineformat.specs.Checks.{accepts, read_checks, trailer_checks, size_checks, field_checks, number_checks, record_checks}
 use Rattle.lineformat.proofs.Spelt.{built_in_file}
 use Rattle.linefile.specs.declared.FileLine.{FileLine}
 use Rattle.linefile.specs.Held.{file_of}
 use Rattle.linefile.proofs.FileLine.built_in.Goals as goal
 
 built_in_accepted : accepts built_in_file ≡ true
-unfolding read_checks trailer_checks size_checks version_checks number_checks distance_checks record_checks line_of
+unfolding read_checks trailer_checks size_checks field_checks number_checks record_checks line_of
 built_in_accepted = refl
 
 accepted : (bs : List ℕ) (r : Result FileLine Fault) → bs ≡ built_in_file → Answers (read_checks bs) (λ b. file_of b ≡ bs) (Unit {0}) r → IsOk r

@@ -1,4 +1,3 @@
--- What is left to show of `unpack`.
 use Rattle.std.proofs.Common.{◌≡◌, List, ◌++◌, length, take, is_ok, sym, refl, ap, ◌∙◌}
 use Rattle.std.proofs.lemmas.List.{take_at}
 use Rattle.lineformat.specs.declared.MoveRecord.{MoveRecord}

@@ -1,4 +1,3 @@
--- What is left to show of `file_bytes`.
 use Rattle.std.proofs.Common.{◌≡◌, ℕ, ◌+◌, List, [], ◌++◌, take, None, Some, Option, ap, ◌∙◌, subst, arith, rules}
 use Rattle.std.specs.Option.{IfSome, option_map}
 use Rattle.std.proofs.lemmas.List.{take-take}

@@ -1,4 +1,3 @@
--- Invariants and measures of `firsts`.
 use Rattle.std.proofs.Common.{◌≡◌, ℕ, ◌<◌, length, get_or}
 use Rattle.lineformat.specs.WellFormed.{moves_before}
 use Rattle.linefile.proofs.records.firsts.Given as goal

@@ -1,10 +1,9 @@
--- What is left to show of `every_move`, `holds`, `is_settled_first`, `leads_on` and `some_move`, which call each other.
 use Rattle.std.proofs.Common.{Bool, true, false, Decides, refl, ◌∙◌, subst, arith, below_more}
 use Rattle.std.proofs.lemmas.Bool.Decides.{not_from_Decides}
 use Rattle.hopper.proofs.Boards.{step_below}
 use Rattle.lookahead.specs.declared.Outlook.{Outlook}
-use Rattle.lookahead.specs.Asking.{SomeLeads, LeadsOn}
-use Rattle.lookahead.specs.Remembering.{game_in, Held}
+use Rattle.lookahead.specs.Inner.Asking.{SomeLeads, LeadsOn}
+use Rattle.lookahead.specs.Inner.Remembering.{game_in, Held}
 use Rattle.lookahead.proofs.Turns.{some_at, decides_yes, decides_no, decides_same, some_leads, some_out, every_leads, every_out, led_settles}
 use Rattle.lookahead.proofs.Memory.+asking.Goals as goal
 

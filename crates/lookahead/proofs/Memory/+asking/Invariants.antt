@@ -1,6 +1,5 @@
--- Invariants and measures of `every_move`, `holds`, `is_settled_first`, `leads_on` and `some_move`, which call each other.
 use Rattle.std.proofs.Common.{◌≡◌, ℕ, ◌+◌, ◌*◌, ◌<◌}
-use Rattle.lookahead.specs.Asking.{LeadsOn}
+use Rattle.lookahead.specs.Inner.Asking.{LeadsOn}
 use Rattle.lookahead.proofs.Memory.+asking.Given as goal
 
 abbrev pub decreases-is_settled_first : goal.decreases-is_settled_first

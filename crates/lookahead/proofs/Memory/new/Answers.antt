@@ -1,8 +1,7 @@
--- What is left to show of `new`.
 use Rattle.std.proofs.Common.{◌*◌, true, sym, refl, subst, arith}
 use Rattle.std.proofs.lemmas.List.Elements.{All-replicate}
 use Rattle.lookahead.specs.declared.Remembered.{Remembered}
-use Rattle.lookahead.specs.Remembering.{Right, AllRight}
+use Rattle.lookahead.specs.Inner.Remembering.{Right, AllRight}
 use Rattle.lookahead.proofs.Memory.new.Goals as goal
 
 -- any fill holds for no moves

@@ -1,11 +1,10 @@
--- What is left to show of `read_slot`.
 use Rattle.std.proofs.Common.{◌≡◌, Bool, true, false, Option, IfSome, Decides, sym, refl, subst}
 use Rattle.std.proofs.Math.Logic.{∥∥₁_map}
 use Rattle.std.specs.Bool.{then_some}
 use Rattle.lookahead.specs.declared.Outlook.{Outlook}
 use Rattle.lookahead.specs.declared.Question.{Question}
 use Rattle.lookahead.specs.declared.Remembered.{Remembered}
-use Rattle.lookahead.specs.Remembering.{Held, Right, Settles, AllRight}
+use Rattle.lookahead.specs.Inner.Remembering.{Held, Right, Settles, AllRight}
 use Rattle.lookahead.proofs.Turns.{told}
 use Rattle.lookahead.proofs.Memory.read_slot.Goals as goal
 

@@ -1,7 +1,6 @@
--- What is left to show of `remember`.
 use Rattle.std.proofs.Math.Logic.{∥∥₁_map}
 use Rattle.std.proofs.lemmas.List.Elements.{All-set}
-use Rattle.lookahead.specs.Remembering.{Right}
+use Rattle.lookahead.specs.Inner.Remembering.{Right}
 use Rattle.lookahead.proofs.Memory.remember.Goals as goal
 
 pub invariant_of-self : goal.invariant_of-self

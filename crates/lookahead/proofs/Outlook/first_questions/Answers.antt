@@ -1,10 +1,9 @@
--- What is left to show of `first_questions`.
 use Rattle.std.proofs.Common.{◌≡◌, ◌⊎◌, ℕ, List, get_or, Some, None, IfSome, Option, inl, inr, sym, subst, arith}
 use Rattle.std.proofs.lemmas.List.Elements.{All-set, All-replicate}
 use Rattle.std.specs.List.{All}
 use Rattle.lookahead.specs.declared.Outlook.{Outlook}
 use Rattle.lookahead.specs.declared.Question.{Question}
-use Rattle.lookahead.specs.Asking.{SomeLeads}
+use Rattle.lookahead.specs.Inner.Asking.{SomeLeads}
 use Rattle.lookahead.proofs.Turns.{some_at, few_places}
 use Rattle.lookahead.proofs.Outlook.first_questions.Goals.{in-Some, in_default}
 use Rattle.lookahead.proofs.Outlook.first_questions.Goals as goal

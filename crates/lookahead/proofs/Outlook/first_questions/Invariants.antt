@@ -1,7 +1,6 @@
--- The invariant of `first_questions`.
 use Rattle.std.proofs.Common.{IfSome}
 use Rattle.std.specs.List.{All}
-use Rattle.lookahead.specs.Asking.{SomeLeads}
+use Rattle.lookahead.specs.Inner.Asking.{SomeLeads}
 use Rattle.lookahead.proofs.Outlook.first_questions.Given as goal
 
 abbrev pub invariant-loop-mv : goal.invariant-loop-mv

@@ -1,4 +1,3 @@
--- What is left to show of `holds_higher`.
 use Rattle.std.proofs.Common.{sym, ◌∙◌, leb-true}
 use Rattle.lookahead.proofs.Turns.{holds_higher}
 use Rattle.lookahead.proofs.Outlook.holds_higher.Goals as goal

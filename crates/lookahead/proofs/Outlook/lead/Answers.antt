@@ -1,9 +1,8 @@
--- What is left to show of `lead`.
 use Rattle.std.proofs.Common.{ℤ, sym, refl, ap, ◌∙◌, w32, SFits, rules}
 use Rattle.std.proofs.lemmas.Int.{to_z-of_z}
 use Rattle.hopper.specs.Any.{any_keeps}
 use Rattle.hopper.proofs.Boards.{step_inside}
-use Rattle.lookahead.specs.Remembering.{game_in, table_in}
+use Rattle.lookahead.specs.Inner.Remembering.{game_in, hopper_in}
 use Rattle.lookahead.proofs.Turns.{formed}
 use Rattle.lookahead.proofs.Outlook.lead.Goals as goal
 
@@ -14,7 +13,7 @@ returns c =
     let edge = c.unwrap-edge.result in
     let fits : SFits w32 edge.amount = search rules in
     let there = sym c.step.ensures ∙ c.unwrap-edge.ensures in
-    let poured = ap (λ (a : ℤ). table_in o q.level a) (sym (to_z-of_z w32 edge.amount fits)) ∙ sym c.pour.ensures ∙ c.in_ok-level.was in
+    let poured = ap (λ (a : ℤ). (hopper_in o).table q.level a) (sym (to_z-of_z w32 edge.amount fits)) ∙ sym c.pour.ensures ∙ c.in_ok-level.was in
     record {
       edge = edge;
       is = there;

@@ -1,4 +1,3 @@
--- What is left to show of `settles`.
 use Rattle.lookahead.proofs.Turns.{settles_held, settles_beaten}
 use Rattle.lookahead.proofs.Outlook.settles.Goals as goal
 

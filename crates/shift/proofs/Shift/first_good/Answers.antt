@@ -1,4 +1,3 @@
--- What is left to show of `first_good`.
 use Rattle.std.proofs.Common.{◌≡◌, true, false, Some, None, Ok, arith, rules}
 use Rattle.hopper.specs.Boards.{step_at}
 use Rattle.hopper.specs.Refusing.{verdict}
@@ -11,15 +10,14 @@ use Rattle.shift.proofs.Shift.first_good.Goals as goal
 pub returns-in_default : goal.returns-in_default
 returns-in_default g c =
     let game = g.B.Board.game c.args.board.now in
-    let top = g.V.Vessel.top c.args.vessel.now in
-    let t = g.V.Vessel.table c.args.vessel.now in
+    let v = g.V.Vessel.hopper c.args.vessel.now in
     let marks = c.args.marks.now in
     let s = c.args.self.now in
     let at = game.at s.place in
     let is : step_at at c.loop-edge.m ≡ None = cc in
     let u = c.in_ok-pass.field-0 in
-    let passed : Ok u ≡ verdict (asked game top t marks s) = search rules in
-    (decided game top t marks s u passed false (none_found (pours_good top t marks s.level) at c.loop-edge.m c.loop-edge.invariant is), tt)
+    let passed : Ok u ≡ verdict (asked game v marks s) = search rules in
+    (decided game v marks s u passed false (none_found (pours_good v marks s.level) at c.loop-edge.m c.loop-edge.invariant is), tt)
 
 pub overflow_add-m : goal.overflow_add-m
 overflow_add-m g c =
@@ -36,9 +34,8 @@ loop-edge-smaller g c =
 
 pub loop-edge-preserved : goal.loop-edge-preserved
 loop-edge-preserved g c =
-    let top = g.V.Vessel.top c.args.vessel.now in
-    let t = g.V.Vessel.table c.args.vessel.now in
-    let test = pours_good top t c.args.marks.now c.args.self.now.level in
+    let v = g.V.Vessel.hopper c.args.vessel.now in
+    let test = pours_good v c.args.marks.now c.args.self.now.level in
     let at = (g.B.Board.game c.args.board.now).at c.args.self.now.place in
     let is : step_at at c.loop-edge.m ≡ Some c.in-Some.edge = cc in
     let bad : test c.in-Some.edge ≡ false = cc in
@@ -47,16 +44,15 @@ loop-edge-preserved g c =
 pub returns : goal.returns
 returns g c =
     let game = g.B.Board.game c.args.board.now in
-    let top = g.V.Vessel.top c.args.vessel.now in
-    let t = g.V.Vessel.table c.args.vessel.now in
+    let v = g.V.Vessel.hopper c.args.vessel.now in
     let marks = c.args.marks.now in
     let s = c.args.self.now in
     let at = game.at s.place in
-    let test = pours_good top t marks s.level in
+    let test = pours_good v marks s.level in
     let is : step_at at c.loop-edge.m ≡ Some c.in-Some.edge = cc in
     let good : test c.in-Some.edge ≡ true = cc in
     let u = c.in_ok-pass.field-0 in
-    let passed : Ok u ≡ verdict (asked game top t marks s) = search rules in (
-      decided game top t marks s u passed true (some_found test at c.loop-edge.m c.in-Some.edge is good),
+    let passed : Ok u ≡ verdict (asked game v marks s) = search rules in (
+      decided game v marks s u passed true (some_found test at c.loop-edge.m c.in-Some.edge is good),
       record { move = c.in-Some.edge; is_move = is; good = good; first = c.loop-edge.invariant },
     )

@@ -1,4 +1,3 @@
--- Invariants and measures of `first_good`.
 use Rattle.std.proofs.Common.{◌-◌}
 use Rattle.hopper.specs.Boards.{count_at}
 use Rattle.shift.specs.Good.{pours_good}
@@ -8,7 +7,7 @@ use Rattle.shift.proofs.Shift.first_good.Given as goal
 -- no move before m is good
 abbrev pub invariant-loop-edge : goal.invariant-loop-edge
 invariant-loop-edge g l =
-    Passed (pours_good (g.V.Vessel.top l.vessel) (g.V.Vessel.table l.vessel) l.marks l.self.level)
+    Passed (pours_good (g.V.Vessel.hopper l.vessel) l.marks l.self.level)
     ((g.B.Board.game l.board).at l.self.place) l.m
 
 -- the moves that are left

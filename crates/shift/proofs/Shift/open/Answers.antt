@@ -1,9 +1,8 @@
--- What is left to show of `open`.
-use Rattle.shift.proofs.WholeFate.{starting_fill_tells_the_whole_fate}
+use Rattle.shift.proofs.StartingFill.{starting_fills_decide}
 use Rattle.shift.proofs.Shift.open.Goals as goal
 
-pub returns-in_err-check_open-clause-fate : goal.returns-in_err-check_open-clause-fate
-returns-in_err-check_open-clause-fate g c = starting_fill_tells_the_whole_fate
+pub returns-in_err-check_open-clause-decides : goal.returns-in_err-check_open-clause-decides
+returns-in_err-check_open-clause-decides g c = starting_fills_decide
 
-pub returns-clause-fate : goal.returns-clause-fate
-returns-clause-fate g c = starting_fill_tells_the_whole_fate
+pub returns-clause-decides : goal.returns-clause-decides
+returns-clause-decides g c = starting_fills_decide

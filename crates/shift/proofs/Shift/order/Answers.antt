@@ -1,4 +1,3 @@
--- What is left to show of `order`.
 use Rattle.std.proofs.Common.{◌≡◌, ℕ, Bool, true, ◌&&◌, eqb, refl, ap, ◌∙◌}
 use Rattle.std.proofs.lemmas.Bool.{eq-eqb}
 use Rattle.shift.proofs.Shift.order.Goals as goal

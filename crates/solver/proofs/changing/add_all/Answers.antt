@@ -1,4 +1,3 @@
--- What is left to show of `add_all`.
 use Rattle.std.proofs.Common.{arith}
 use Rattle.solver.proofs.Remaking.{flagged_inside}
 use Rattle.solver.proofs.changing.add_all.Goals as goal

@@ -1,6 +1,5 @@
--- Invariants and measures of `add_all`.
 use Rattle.std.proofs.Common.{◌≡◌, ℕ, ◌<◌, slice_index}
-use Rattle.solver.specs.Changing.{Flagged}
+use Rattle.solver.specs.Inner.Changing.{Flagged}
 use Rattle.solver.proofs.changing.add_all.Given as goal
 
 abbrev pub invariant-loop-place : goal.invariant-loop-place

@@ -1,6 +1,5 @@
--- Invariants and measures of `take_over`.
 use Rattle.std.proofs.Common.{◌≡◌, ℕ, ◌<◌, slice_index}
-use Rattle.solver.specs.Changing.{Listed}
+use Rattle.solver.specs.Inner.Changing.{Listed}
 use Rattle.solver.proofs.changing.take_over.Given as goal
 
 abbrev pub invariant-loop-i : goal.invariant-loop-i

@@ -1,4 +1,3 @@
--- Invariants and measures of `lay_place`.
 use Rattle.std.proofs.Common.{◌≡◌, ℕ, ◌+◌, ◌<◌}
 use Rattle.std.specs.List.{slice_get}
 use Rattle.hopper.specs.Boards.{step_at}

@@ -1,6 +1,5 @@
--- Invariants and measures of `lay_places`.
 use Rattle.std.proofs.Common.{ℕ, ◌≤◌, length, slice_index}
-use Rattle.solver.specs.EdgeTable.{Laid}
+use Rattle.solver.specs.Inner.Moves.{Laid}
 use Rattle.solver.proofs.edge_table.lay_places.Given as goal
 
 abbrev pub invariant-loop-place : goal.invariant-loop-place

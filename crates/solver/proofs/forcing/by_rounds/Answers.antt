@@ -1,7 +1,6 @@
--- What is left to show of `by_rounds`.
 use Rattle.std.proofs.Common.{◌≡◌, suc, true, false, List, ℕ, ◌++◌, length, set, drop, replicate, add-one, arith, rules}
 use Rattle.solver.specs.Entries.{never}
-use Rattle.solver.specs.Forcing.{RoundDone}
+use Rattle.solver.specs.Inner.Marks.{RoundDone}
 use Rattle.solver.proofs.Attraction.{started, started_rest, gone_on, stopped}
 use Rattle.solver.proofs.forcing.by_rounds.Goals as goal
 

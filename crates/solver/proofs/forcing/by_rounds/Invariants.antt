@@ -1,4 +1,3 @@
--- Invariants and measures of `by_rounds`.
 use Rattle.std.proofs.Common.{◌-◌}
 use Rattle.solver.proofs.Attraction.{AfterRounds}
 use Rattle.solver.proofs.forcing.by_rounds.Given as goal

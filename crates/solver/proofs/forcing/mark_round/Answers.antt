@@ -1,4 +1,3 @@
--- What is left to show of `mark_round`.
 use Rattle.std.proofs.Common.{ℕ, ◌<◌, ◌≤◌, length, get_or, refl, arith, rules}
 use Rattle.std.proofs.lemmas.Bool.{false≢true}
 use Rattle.solver.specs.Entries.{never}

@@ -1,5 +1,4 @@
--- Invariants and measures of `mark_round`.
-use Rattle.solver.specs.Forcing.{RoundDone}
+use Rattle.solver.specs.Inner.Marks.{RoundDone}
 use Rattle.solver.proofs.forcing.mark_round.Given as goal
 
 abbrev pub invariant-loop-place : goal.invariant-loop-place

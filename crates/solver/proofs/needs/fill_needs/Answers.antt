@@ -1,11 +1,11 @@
--- What is left to show of `fill_needs`.
-use Rattle.std.proofs.Common.{ℕ, slice_index, subst}
-use Rattle.game.specs.Rows.{Reaches}
-use Rattle.solver.specs.Least.{Parts}
+use Rattle.std.proofs.Common.{ℕ, slice_index, sym, ap, ◌∙◌}
+use Rattle.solver.proofs.Serving.{need_read}
 use Rattle.solver.proofs.needs.fill_needs.Goals as goal
 
 pub returns : goal.returns
 returns g c = λ k e is.
-    let top = g.V.Vessel.top c.args.vessel.now in
-    let t = g.V.Vessel.table c.args.vessel.now in
-    subst (λ (n : ℕ). Parts top (Reaches t n e.amount) (slice_index c.put_needs.new.needs k)) (c.put_wanted.ensures k e is) (c.put_needs.ensures k e is)
+    let vessel = c.args.vessel.now in
+    let need = g.V.Graded.need vessel in
+    c.put_needs.ensures k e is
+    ∙ (ap (λ (n : ℕ). need n e.amount) (c.put_wanted.ensures k e is)
+    ∙ sym (need_read (g.V.Vessel.hopper vessel) (g.V.Vessel.keeps vessel) need (g.met.V.Graded.graded vessel) (slice_index c.args.row.now e.target) e.amount))

@@ -1,4 +1,3 @@
--- Invariants and measures of `put_wanted`.
 use Rattle.std.proofs.Common.{◌≡◌, ℕ, ◌<◌, Some, slice_index}
 use Rattle.std.specs.List.{slice_get}
 use Rattle.game.specs.declared.Edge.{Edge}

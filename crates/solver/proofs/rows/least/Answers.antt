@@ -1,31 +1,37 @@
--- What is left to show of `least`.
-use Rattle.solver.proofs.RowByRow.{answer_lip, answer_lipless, answer_lower, answer_soon}
+use Rattle.std.proofs.Common.{rules}
+use Rattle.solver.specs.Least.{LeastAnswers}
+use Rattle.solver.proofs.RowByRow.{answer_soon, rows_unique}
 use Rattle.solver.proofs.rows.least.Goals as goal
 
-pub returns-clause-lip : goal.returns-clause-lip
-returns-clause-lip g c =
+pub returns-in_err-pass : goal.returns-in_err-pass
+returns-in_err-pass g c =
     let board = c.args.board.now in
     let vessel = c.args.vessel.now in
-    answer_lip (g.B.Board.game board) (g.B.Board.formed board) (g.V.Vessel.top vessel) (g.V.Vessel.table vessel) (g.V.Vessel.keeps vessel) c.args.row.now c.args.next.now
-    c.made_rows.new.row c.made_rows.new.next c.args.budget c.made_rows.result c.made_rows.ensures
+    let game = g.B.Board.game board in
+    let v = g.V.Vessel.hopper vessel in
+    let row = c.args.row.now in
+    let next = c.args.next.now in
+    let answer : LeastAnswers game v row row next next c.args.budget c.from_residual.result = search rules in
+    record {
+      answer = answer;
+      tells = search rules;
+      soon = answer_soon game v row row next next c.args.budget c.from_residual.result answer;
+      unique = rows_unique game v;
+    }
 
-pub returns-clause-lipless : goal.returns-clause-lipless
-returns-clause-lipless g c =
+pub returns : goal.returns
+returns g c =
     let board = c.args.board.now in
     let vessel = c.args.vessel.now in
-    answer_lipless (g.B.Board.game board) (g.B.Board.formed board) (g.V.Vessel.top vessel) (g.V.Vessel.table vessel) (g.V.Vessel.keeps vessel) c.args.row.now c.args.next.now
-    c.made_rows.new.row c.made_rows.new.next c.args.budget c.made_rows.result c.made_rows.ensures
-
-pub returns-clause-lower : goal.returns-clause-lower
-returns-clause-lower g c =
-    let board = c.args.board.now in
-    let vessel = c.args.vessel.now in
-    answer_lower (g.B.Board.game board) (g.B.Board.formed board) (g.V.Vessel.top vessel) (g.V.Vessel.table vessel) (g.V.Vessel.keeps vessel) c.args.row.now c.args.next.now
-    c.made_rows.new.row c.made_rows.new.next c.args.budget c.made_rows.result c.made_rows.ensures
-
-pub returns-clause-soon : goal.returns-clause-soon
-returns-clause-soon g c =
-    let board = c.args.board.now in
-    let vessel = c.args.vessel.now in
-    answer_soon (g.B.Board.game board) (g.B.Board.formed board) (g.V.Vessel.top vessel) (g.V.Vessel.table vessel) (g.V.Vessel.keeps vessel) c.args.row.now c.args.next.now
-    c.made_rows.new.row c.made_rows.new.next c.args.budget c.made_rows.result c.made_rows.ensures
+    let game = g.B.Board.game board in
+    let v = g.V.Vessel.hopper vessel in
+    let row = c.args.row.now in
+    let next = c.args.next.now in
+    let made = c.made_rows in
+    let answer : LeastAnswers game v row made.new.row next made.new.next c.args.budget made.result = search rules in
+    record {
+      answer = answer;
+      tells = search rules;
+      soon = answer_soon game v row made.new.row next made.new.next c.args.budget made.result answer;
+      unique = rows_unique game v;
+    }

@@ -1,5 +1,5 @@
--- What is left to show of `next_row`.
-use Rattle.std.proofs.Common.{◌<◌, length, ◌∙◌, arith, get_or-set_other, get_or-set_same, below_more}
+use Rattle.std.proofs.Common.{◌<◌, length, ap, ◌∙◌, arith, get_or-set_other, get_or-set_same, below_more}
+use Rattle.solver.specs.Entries.{as_entry}
 use Rattle.solver.proofs.rows.next_row.Goals as goal
 
 pub loop-place-preserved : goal.loop-place-preserved
@@ -9,6 +9,6 @@ loop-place-preserved g c =
     let room : n < length items = omega arith in
     let inv = c.loop-place.invariant in
     record {
-      front = below_more _ n (λ k h. rw (get_or-set_other items n k c.next_entry.result 0 (omega arith)) (inv.front k h)) (rw (get_or-set_same items n c.next_entry.result 0 room) c.next_entry.ensures);
+      front = below_more _ n (λ k h. ap as_entry (get_or-set_other items n k c.next_entry.result 0 (omega arith)) ∙ inv.front k h) (ap as_entry (get_or-set_same items n c.next_entry.result 0 room) ∙ c.next_entry.ensures);
       rest = λ k h. get_or-set_other items n k c.next_entry.result 0 (omega arith) ∙ inv.rest k (omega arith);
     }

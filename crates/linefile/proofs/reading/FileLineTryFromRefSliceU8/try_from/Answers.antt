@@ -1,4 +1,3 @@
--- What is left to show of `try_from`.
 use Rattle.std.proofs.Common.{◌≡◌, ℕ, true, List, get_or, is_ok, Ok, sym, ap, ◌∙◌, arith}
 use Rattle.hopper.specs.Refusing.{verdict}
 use Rattle.lineformat.specs.Format.{line_of}

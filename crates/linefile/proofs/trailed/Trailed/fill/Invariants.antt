@@ -1,4 +1,3 @@
--- Invariants and measures of `fill`.
 use Rattle.std.proofs.Common.{◌≡◌, ◌++◌, drop}
 use Rattle.lineformat.specs.Format.{records_at}
 use Rattle.linefile.proofs.trailed.Trailed.fill.Given as goal

@@ -1,4 +1,3 @@
--- What is left to show of `get`.
 use Rattle.std.proofs.Common.{sym, ap, ◌∙◌, rules}
 use Rattle.lineformat.specs.Format.{line_of, records_at}
 use Rattle.lineformat.proofs.Spelt.{read_record}

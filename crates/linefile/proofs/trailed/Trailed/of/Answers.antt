@@ -1,10 +1,9 @@
--- What is left to show of `of`.
-use Rattle.std.proofs.Common.{◌≡◌, ℕ, ◌++◌, List, length, is_ok, Ok, sym, ap, ◌∙◌, arith}
+use Rattle.std.proofs.Common.{◌≡◌, ℕ, List, length, is_ok, Ok, sym, ap, ◌∙◌, arith}
 use Rattle.hopper.specs.Faults.{Check}
 use Rattle.hopper.specs.Refusing.{verdict}
 use Rattle.lineformat.specs.declared.Numbers.{Numbers}
-use Rattle.lineformat.specs.Format.{numbers_in, offsets_in}
-use Rattle.lineformat.specs.Checks.{size_checks, version_checks, number_checks, distance_checks, trailer_checks}
+use Rattle.lineformat.specs.Format.{trailer, numbers_in}
+use Rattle.lineformat.specs.Checks.{size_checks, field_checks, trailer_checks}
 use Rattle.lineformat.proofs.Sound.{trailer_sound, parts_of}
 use Rattle.linefile.specs.declared.trailed.Trailer.{Trailer}
 use Rattle.linefile.proofs.Answering.{first_refused, second_refused, both_pass}
@@ -12,7 +11,7 @@ use Rattle.linefile.proofs.trailed.Trailed.of.Goals as goal
 
 -- what the trailer says is checked after the size
 abbrev said : List ℕ → List Check
-said bs = version_checks bs ++ (number_checks (numbers_in bs) (offsets_in bs) ++ distance_checks bs)
+said bs = field_checks (trailer bs) bs
 
 passed : (bs : List ℕ) (t : Trailer) → (verdict (size_checks bs) ≡ Ok tt) × (t.file.now ≡ bs) → Ok tt ≡ verdict (said t.file.now) → verdict (trailer_checks bs) ≡ Ok tt
 unfolding trailer_checks

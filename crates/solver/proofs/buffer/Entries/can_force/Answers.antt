@@ -1,10 +1,9 @@
--- What is left to show of `can_force`.
 use Rattle.std.proofs.Common.{◌≡◌, ℕ, ◌<◌, Some, rules}
 use Rattle.std.proofs.iter.runs.Sources.{ranges}
 use Rattle.std.specs.Bool.{MatchBool}
 use Rattle.game.specs.declared.Owner.TheVariants.{Ours, Theirs}
 use Rattle.hopper.specs.Boards.{owner_at, count_at}
-use Rattle.solver.specs.Forcing.{MarkedBelow, LeadsTo}
+use Rattle.solver.specs.Inner.Marks.{MarkedBelow, LeadsTo}
 use Rattle.solver.proofs.Choosing.{by_test, decided, comes_to, each_forces, some_forces}
 use Rattle.solver.proofs.buffer.Entries.can_force.Goals as goal
 

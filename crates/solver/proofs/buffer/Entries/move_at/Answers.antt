@@ -1,4 +1,3 @@
--- What is left to show of `move_at`.
 use Rattle.std.proofs.Common.{sym, ◌∙◌}
 use Rattle.hopper.proofs.Boards.{step_inside}
 use Rattle.solver.proofs.buffer.Entries.move_at.Goals as goal

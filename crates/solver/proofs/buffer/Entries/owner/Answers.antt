@@ -1,4 +1,3 @@
--- What is left to show of `owner`.
 use Rattle.std.proofs.Common.{is_some, sym, ap, ◌∙◌}
 use Rattle.hopper.proofs.Boards.{owner_there}
 use Rattle.solver.proofs.Choosing.{some_there}

@@ -1,9 +1,8 @@
--- What is left to show of `settled`.
 use Rattle.std.proofs.Common.{◌≡◌, ℕ, ◌<◌, subst, rules}
 use Rattle.std.proofs.Math.Dec.{ltb}
 use Rattle.std.proofs.lemmas.Bool.{ltb-true}
 use Rattle.solver.specs.Forcing.{ForcedMarks}
-use Rattle.solver.specs.Settling.{Settled}
+use Rattle.solver.specs.Inner.Marks.{Settled}
 use Rattle.solver.proofs.Passing.{settled_never, settled_number, if_then_some}
 use Rattle.solver.proofs.Settled.{settled_marks}
 use Rattle.solver.proofs.buffer.Entries.settled.Goals as goal

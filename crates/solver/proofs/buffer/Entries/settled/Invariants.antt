@@ -1,5 +1,4 @@
--- Invariants and measures of `settled`.
-use Rattle.solver.specs.Settling.{Settled}
+use Rattle.solver.specs.Inner.Marks.{Settled}
 use Rattle.solver.proofs.buffer.Entries.settled.Given as goal
 
 abbrev pub invariant-loop-place : goal.invariant-loop-place

@@ -1,4 +1,3 @@
--- What is left to show of `add_all_sources`.
 use Rattle.std.proofs.Common.{arith}
 use Rattle.solver.proofs.origins.Origins.add_all_sources.Goals as goal
 

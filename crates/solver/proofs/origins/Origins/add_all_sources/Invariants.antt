@@ -1,7 +1,6 @@
--- Invariants and measures of `add_all_sources`.
 use Rattle.std.proofs.Common.{ℕ, ◌<◌, slice_index}
-use Rattle.solver.specs.Changing.{IsWorklist}
-use Rattle.solver.specs.Origins.{FlagsSources}
+use Rattle.solver.specs.Inner.Changing.{IsWorklist}
+use Rattle.solver.specs.Inner.Moves.{FlagsSources}
 use Rattle.solver.proofs.origins.Origins.add_all_sources.Given as goal
 
 abbrev pub invariant-loop-i : goal.invariant-loop-i

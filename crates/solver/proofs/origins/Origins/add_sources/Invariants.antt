@@ -1,6 +1,5 @@
--- Invariants and measures of `add_sources`.
 use Rattle.std.proofs.Common.{ℕ, ◌<◌, ◌≤◌, slice_index}
-use Rattle.solver.specs.Changing.{Flagged, IsWorklist, KeepsFlags}
+use Rattle.solver.specs.Inner.Changing.{Flagged, IsWorklist, KeepsFlags}
 use Rattle.solver.proofs.origins.Origins.add_sources.Given as goal
 
 abbrev pub invariant-loop-slot : goal.invariant-loop-slot

@@ -1,4 +1,3 @@
--- What is left to show of `list_again`.
 use Rattle.solver.proofs.origins.Origins.list_again.Goals as goal
 
 pub returns-clause-flagged : goal.returns-clause-flagged

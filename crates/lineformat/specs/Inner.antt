@@ -1,0 +1,2 @@
+-- What only private functions name.
+pub mod Parts
