@@ -110,9 +110,9 @@ hopper_fault hopper_check(const uint8_t *file, size_t len);
  * Refusals: 1 to 13. Accepted: both numbers are written. */
 hopper_fault hopper_places(const uint8_t *file, size_t len, uint32_t *places, uint64_t *fills_plus_one);
 
-/* The least good fills of a line over a lip or a drawn hopper. Row j has the lowest fill of each place that holds for j moves, or
- * HOPPER_NEVER; the rounds are the number of the first row that the next one repeats, at most `budget`. A budget of fills_plus_one - 1 is
- * always enough.
+/* The least good fills of a line over a lip or a drawn hopper. Row j has for each place the fewest litres with which no refusal can be
+ * brought about in the next j moves, or HOPPER_NEVER; `rounds` counts the rows up to the first that equals the one after it, which may be
+ * `budget` at most. A budget of fills_plus_one - 1 always suffices.
  * Refusals: 1 to 13; 4 where the hopper is closed, with layer HOPPER_REST and the kind, 1, as spot; 19 where one of the rows is shorter than
  * the places; 20 where each row up to the budget differs from the next.
  * Accepted: both rows hold that row, in as many entries as there are places, and `rounds` its number.
@@ -137,7 +137,8 @@ hopper_fault hopper_sheet(const uint8_t *file, size_t len, uint32_t *marks, size
  * shift since hopper_open are shown the same file and its marks, none of them is refused with 31 or with 33. */
 
 /* Opens a shift at a place and a fill.
- * Refusals: 1 to 13; 16 and 17 as in hopper_mark; 18 no such place; 23 the fill is above the top; 27 the fill is not good.
+ * Refusals: 1 to 13; 16 and 17 as in hopper_mark; 18 no place of the line has this number; 23 the hopper does not hold so much; 27 the mark that is
+ * shown for it is not HOPPER_NEVER.
  * Accepted: `out` is the shift, without an order. */
 hopper_fault hopper_open(const uint8_t *file, size_t len, const uint32_t *marks, size_t marks_len, uint32_t number, uint32_t place,
                          uint32_t fill, hopper_shift *out);
