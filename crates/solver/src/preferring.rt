@@ -18,7 +18,8 @@ fn better(owner: Owner, a: u32, b: u32) -> u32
     }
 }
 
-// The lowest of the numbers of so many moves where we choose, the highest where the other side does.
+// The lowest of the numbers of so many moves where we choose, the highest where the other side does. The loop has the first one too, since a loop over all
+// moves is faster than one that begins behind the first: the compiler takes several moves at a time.
 #[inline(always)]
 fn preferred_by<F: Fn(u32) -> u32>(owner: Owner, count: u32, number: F) -> u32
     requires some { 1 ≤ count }
@@ -27,7 +28,7 @@ fn preferred_by<F: Fn(u32) -> u32>(owner: Owner, count: u32, number: F) -> u32
     ensures one { (m : ℕ) × (m < count) × F.post number m result }
 {
     let mut best = number(0);
-    for m in 1..count {
+    for m in 0..count {
         best = better(owner, best, number(m));
     }
     best

@@ -18,8 +18,8 @@ loop-m-preserved g c =
     let small : c.number.result ≤ never = search rules in (
       below_more _ l.m (λ m lt. (let w = l.invariant.0 m lt in (w.0, w.1, w.2, on o z l.best w.0 better.first w.3))) (c.number.result, small, c.number.ensures, better.second),
       elim better.one [
-        | inl e ↦ (let w = l.invariant.1 in (w.0, (let lt = w.1 in omega arith), subst (goal.F-post g c.args.number w.0) (sym e) w.2))
-        | inr e ↦ (l.m, omega arith, subst (goal.F-post g c.args.number l.m) (sym e) c.number.ensures)
+        | inl e ↦ (let w = l.invariant.1 in (w.0, w.1, subst (goal.F-post g c.args.number w.0) (sym e) w.2))
+        | inr e ↦ (l.m, c.loop-m-test.true, subst (goal.F-post g c.args.number l.m) (sym e) c.number.ensures)
       ],
     )
 
