@@ -1,5 +1,5 @@
 -- What an outlook's answers tell of each other, and one turn of the question.
-use Rattle.std.proofs.Common.{◌≡◌, ℕ, suc, ◌+◌, ◌-◌, ◌<◌, ◌≤◌, Bool, true, false, List, length, get_or, Some, None, Decides, IfSome, Option, sym, refl, ap, ◌∙◌, subst, true≢false, arith}
+use Rattle.std.proofs.Common.{◌≡◌, ℕ, suc, ◌+◌, ◌-◌, ◌<◌, ◌≤◌, Bool, true, false, List, length, get_or, replicate, Some, None, Decides, IfSome, Option, sym, refl, ap, ◌∙◌, subst, true≢false, arith}
 use Rattle.std.proofs.lemmas.Bool.{false≢true}
 use Rattle.std.proofs.Math.Bool.{Bool-set, beq}
 use Rattle.std.proofs.Math.Logic.{∥∥₁_elim}
@@ -7,6 +7,7 @@ use Rattle.std.specs.List.{slice_get, All}
 use native.Mathlib.Decide.{dec_lt}
 use Rattle.std.proofs.lemmas.Bool.Decides.{Decides-like}
 use Rattle.std.proofs.lemmas.List.{get_or_past}
+use Rattle.std.proofs.lemmas.List.Elements.{All-replicate}
 use Rattle.game.specs.declared.Edge.{Edge}
 use Rattle.game.specs.declared.Owner.{Owner}
 use Rattle.game.specs.declared.Owner.TheVariants.{Ours, Theirs}
@@ -30,7 +31,7 @@ use Rattle.lookahead.specs.declared.Outlook.{Outlook}
 use Rattle.lookahead.specs.declared.Question.{Question}
 use Rattle.lookahead.specs.declared.Remembered.{Remembered}
 use Rattle.lookahead.specs.Inner.Remembering.{is_ordered, game_in, hopper_in, HoldsIn, Held, HoldsHigher, Settles}
-use Rattle.lookahead.specs.Inner.Asking.{IsNext, Refused, SomeLeads, LeadsOn}
+use Rattle.lookahead.specs.Inner.Asking.{IsNext, Refused, SomeLeads, AllLed, LeadsOn}
 
 -- a test that answers true decides what holds, one that answers false what does not
 pub decides_yes : {P : Type 0} (b : Bool) → b ≡ true → P → Decides b P
@@ -53,6 +54,10 @@ some_at {X} P xs i x is all = by (dec_lt i (length xs))
     by : Dec (i < length xs) → P x
     by (yes lt) = subst (λ (o : Option X). IfSome o P) is (all i None lt)
     by (no n) = absurd (none_some (sym (get_or_past xs i None (omega arith)) ∙ is))
+
+-- where no question is there yet
+pub none_led : (o : Outlook) (q : Question) (size : ℕ) → AllLed o q (replicate size None)
+none_led o q size = All-replicate (λ n. IfSome n (SomeLeads o q)) size None tt
 
 -- the line's game is within the limits
 pub formed : (o : Outlook) → WellFormed (game_in o)

@@ -1,10 +1,9 @@
 // The two questions of a look-ahead, one for places of ours and one for theirs, put in turn with ever fewer moves.
-ghost use Rattle.std.specs.Prelude.{◌≡◌, ◌<◌, ◌≤◌, ◌⊎◌, true, Some, IfSome, Decides, MatchOption};
-ghost use Rattle.std.specs.List.{All};
+ghost use Rattle.std.specs.Prelude.{◌≡◌, ◌<◌, ◌≤◌, ◌⊎◌, true, Some, Decides, MatchOption};
 ghost use Rattle.game.specs.declared.Owner.TheVariants.{Ours, Theirs};
 ghost use Rattle.hopper.specs.Boards.{owner_at, is_owner, count_at};
 ghost use Rattle.lookahead.specs.Inner.Remembering.{game_in, OnBoard, Held};
-ghost use Rattle.lookahead.specs.Inner.Asking.{IsNext, Refused, SomeLeads, LeadsOn};
+ghost use Rattle.lookahead.specs.Inner.Asking.{IsNext, Refused, AllLed, LeadsOn};
 
 use super::remembering::is_ordered;
 use super::{Memory, Outlook, Question, Turn};
@@ -44,6 +43,7 @@ impl<'x> Outlook<'x> {
     }
 
     // The question that a move leads to, with one move fewer, or nothing where the vessel refuses it.
+    #[inline(always)]
     fn lead(&self, turn: Turn, mv: u32) -> Option<Question>
         requires { mv < count_at ((game_in self.now).at turn.question.place) }
         ensures { MatchOption result (Refused self.now turn.question mv) (λ next. IsNext self.now turn.question mv next) }
@@ -72,10 +72,15 @@ impl<'x> Outlook<'x> {
 
     // For each place that the moves of the question's place lead to, which question to ask first:
     // that of the highest level where we choose, of the lowest where they do.
-    fn first_questions(&self, turn: Turn, owner: Owner) -> [Option<Question>; FIRSTS_SIZE]
-        ensures { All (λ first. IfSome first (λ next. SomeLeads self.now turn.question next)) result }
+    // The array is lent, since one that is answered would be copied twice for each question.
+    fn first_questions(
+        &self,
+        turn: Turn,
+        owner: Owner,
+        firsts: &mut [Option<Question>; FIRSTS_SIZE],
+    )
+        ensures { AllLed self.now turn.question firsts.old → AllLed self.now turn.question firsts.new }
     {
-        let mut firsts: [Option<Question>; FIRSTS_SIZE] = [None; FIRSTS_SIZE];
         // kept as it is: no plainer, a closure for `filter_map` would have to state what `lead` asks and answers
         for mv in 0..self.count(turn.question.place) {
             if let Some(next) = self.lead(turn, mv) {
@@ -83,24 +88,23 @@ impl<'x> Outlook<'x> {
                 firsts[i] = Some(next.or_sooner(firsts[i], owner));
             }
         }
-        firsts
     }
 }
 
 impl<'x> Memory<'x> {
-    // Asks first about one move to each place, and says whether one of them settles the question.
-    // Over ordered levels what is then remembered answers for all other moves to the same places.
+    // Asks about one move to each place, and says whether one of them settles the question.
+    // It is a function of its own, since one pays at entry for the size of an array that it lends.
     #[cycle(asking)]
-    fn is_settled_first(&mut self, turn: Turn, owner: Owner) -> bool
+    #[inline(never)]
+    fn is_settled_by_one(&mut self, turn: Turn, owner: Owner) -> bool
         requires { owner_at ((game_in self.old.outlook).at turn.question.place) ≡ Some owner }
         ensures answer { result ≡ true → Decides (is_owner Ours (Some owner)) (Held self.old.outlook turn.question) }
         ensures same { self.new.outlook ≡ self.old.outlook }
     {
-        if turn.question.moves < 2 || self.known.is_empty() || !is_ordered(self.outlook.vessel) {
-            return false;
-        }
-        for first in self.outlook.first_questions(turn, owner) {
-            if let Some(next) = first
+        let mut firsts: [Option<Question>; FIRSTS_SIZE] = [None; FIRSTS_SIZE];
+        self.outlook.first_questions(turn, owner, &mut firsts);
+        for place in 0..self.outlook.line.places() {
+            if let Some(next) = firsts[place as usize]
                 && self.holds(next) == we_choose(owner)
             {
                 return true;
@@ -109,8 +113,24 @@ impl<'x> Memory<'x> {
         false
     }
 
+    // Asks first about one move to each place, where that serves, and says whether one of them settles the question.
+    // Over ordered levels what is then remembered answers for all other moves to the same places.
+    #[cycle(asking)]
+    #[inline(always)]
+    fn is_settled_first(&mut self, turn: Turn, owner: Owner) -> bool
+        requires { owner_at ((game_in self.old.outlook).at turn.question.place) ≡ Some owner }
+        ensures answer { result ≡ true → Decides (is_owner Ours (Some owner)) (Held self.old.outlook turn.question) }
+        ensures same { self.new.outlook ≡ self.old.outlook }
+    {
+        if turn.question.moves < 2 || self.known.is_empty() || !is_ordered(self.outlook.vessel) {
+            return false;
+        }
+        self.is_settled_by_one(turn, owner)
+    }
+
     // Whether a move of the question's place leads to a fill that holds for one move fewer.
     #[cycle(asking)]
+    #[inline(always)]
     fn leads_on(&mut self, turn: Turn, mv: u32) -> bool
         requires { mv < count_at ((game_in self.old.outlook).at turn.question.place) }
         ensures answer { Decides result (LeadsOn self.old.outlook turn.question mv) }
@@ -165,6 +185,7 @@ impl<'x> Memory<'x> {
 
     // Whether the question's fill holds: from what is remembered, or else asked and then remembered.
     #[cycle(asking)]
+    #[inline(always)]
     pub(crate) fn holds(&mut self, question: Question) -> bool
         requires { OnBoard self.old.outlook question }
         ensures answer { Decides result (Held self.old.outlook question) }

@@ -73,6 +73,7 @@ impl<'x> Memory<'x> {
     }
 
     // What is remembered of a question.
+    #[inline(always)]
     pub(crate) fn recall(&self, question: Question) -> Option<bool>
         requires { question.level ≤ (hopper_in self.now.outlook).top }
         ensures { IfSome result (λ b. Decides b (Held self.now.outlook question)) }

@@ -1,5 +1,6 @@
 -- What one move does in an outlook.
-use Rattle.std.specs.Prelude.{◌≡◌, ℕ, ◌-◌, Some, None}
+use Rattle.std.specs.Prelude.{◌≡◌, ℕ, ◌-◌, List, Option, Some, None, IfSome}
+use Rattle.std.specs.List.{All}
 use Rattle.game.specs.declared.Edge.{Edge}
 use Rattle.hopper.specs.Boards.{step_at}
 use Rattle.lookahead.specs.declared.Outlook.{Outlook}
@@ -24,6 +25,10 @@ pub record Refused (o : Outlook) (q : Question) (m : ℕ) : Type 0 where
 -- some move leads from the one question to the other
 abbrev pub SomeLeads : Outlook → Question → Question → Type 0
 SomeLeads o q n = (m : ℕ) × IsNext o q m n
+
+-- some move leads from the question to each of those that are there
+abbrev pub AllLed : Outlook → Question → List (Option Question) → Type 0
+AllLed o q = All (λ n. IfSome n (SomeLeads o q))
 
 -- move m of the question's place leads to a fill that holds for one move fewer
 abbrev pub LeadsOn : Outlook → Question → ℕ → Type 0

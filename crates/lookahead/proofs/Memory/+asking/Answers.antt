@@ -1,21 +1,29 @@
-use Rattle.std.proofs.Common.{Bool, true, false, Decides, refl, ◌∙◌, subst, arith, below_more}
+use Rattle.std.proofs.Common.{◌≡◌, ◌-◌, Bool, true, false, Decides, sym, refl, ◌∙◌, subst, arith, below_more}
 use Rattle.std.proofs.lemmas.Bool.Decides.{not_from_Decides}
 use Rattle.hopper.proofs.Boards.{step_below}
 use Rattle.lookahead.specs.declared.Outlook.{Outlook}
 use Rattle.lookahead.specs.Inner.Asking.{SomeLeads, LeadsOn}
-use Rattle.lookahead.specs.Inner.Remembering.{game_in, Held}
-use Rattle.lookahead.proofs.Turns.{some_at, decides_yes, decides_no, decides_same, some_leads, some_out, every_leads, every_out, led_settles}
+use Rattle.lookahead.specs.Inner.Remembering.{game_in, OnBoard, Held}
+use Rattle.lookahead.proofs.Turns.{none_led, some_at, decides_yes, decides_no, decides_same, some_leads, some_out, every_leads, every_out, led_settles}
 use Rattle.lookahead.proofs.Memory.+asking.Goals as goal
 
-pub is_settled_first-returns-in-loop-first-clause-answer :
-    goal.is_settled_first-returns-in-loop-first-clause-answer
-is_settled_first-returns-in-loop-first-clause-answer t c = λ _.
+pub is_settled_by_one-holds-requires : goal.is_settled_by_one-holds-requires
+is_settled_by_one-holds-requires t c =
     let o = c.args.self.now.outlook in
     let q = c.args.turn.question in
     let n = c.in-Some.next in
-    let firsts = c.first_questions-first-items in
-    let led : SomeLeads o q n = some_at (SomeLeads o q) firsts.result c.loop-first.first-index n c.in-Some.is firsts.ensures in
-    let held = subst (λ (x : Outlook). Decides c.holds.result (Held x n)) c.loop-first.invariant c.holds.ensures.answer in
+    let led : SomeLeads o q n = some_at (SomeLeads o q) c.first_questions.new.firsts c.loop-place.place n c.in-Some.is (c.first_questions.ensures (none_led o q 256)) in
+    let one_fewer : n.moves ≡ q.moves - 1 = led.1.moves in
+    (omega (arith, one_fewer, c.args.turn.some_move), subst (λ (x : Outlook). OnBoard x n) (sym c.loop-place.invariant) led.1.there)
+
+pub is_settled_by_one-returns-in-loop-place-clause-answer :
+    goal.is_settled_by_one-returns-in-loop-place-clause-answer
+is_settled_by_one-returns-in-loop-place-clause-answer t c = λ _.
+    let o = c.args.self.now.outlook in
+    let q = c.args.turn.question in
+    let n = c.in-Some.next in
+    let led : SomeLeads o q n = some_at (SomeLeads o q) c.first_questions.new.firsts c.loop-place.place n c.in-Some.is (c.first_questions.ensures (none_led o q 256)) in
+    let held = subst (λ (x : Outlook). Decides c.holds.result (Held x n)) c.loop-place.invariant c.holds.ensures.answer in
     led_settles o q c.args.turn.some_move c.args.owner c.requires n led (subst (λ (b : Bool). Decides b (Held o n)) c.we_choose.ensures (decides_same c.holds.result c.we_choose.result c.if-holds-we_choose.true held))
 
 pub some_move-returns-then-leads_on-clause-answer : goal.some_move-returns-then-leads_on-clause-answer

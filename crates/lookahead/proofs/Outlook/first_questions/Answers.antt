@@ -1,5 +1,5 @@
 use Rattle.std.proofs.Common.{◌≡◌, ◌⊎◌, ℕ, List, get_or, Some, None, IfSome, Option, inl, inr, sym, subst, arith}
-use Rattle.std.proofs.lemmas.List.Elements.{All-set, All-replicate}
+use Rattle.std.proofs.lemmas.List.Elements.{All-set}
 use Rattle.std.specs.List.{All}
 use Rattle.lookahead.specs.declared.Outlook.{Outlook}
 use Rattle.lookahead.specs.declared.Question.{Question}
@@ -18,9 +18,6 @@ either : (o : Outlook) (q n : Question) (firsts : List (Option Question)) (i : �
 either o q n firsts i r (inl same) led all = subst (SomeLeads o q) (sym same) led
 either o q n firsts i r (inr there) led all = some_at (SomeLeads o q) firsts i r there all
 
-pub loop-mv-init : goal.loop-mv-init
-loop-mv-init c = All-replicate (Led c.args.self.now c.args.turn.question) 256 None tt
-
 pub bounds-firsts-i : goal.bounds-firsts-i
 bounds-firsts-i c = omega (arith, c.in-Some.ensures.there.place, few_places c.args.self.now)
 
@@ -33,9 +30,9 @@ loop-mv-preserved c =
     let q = c.args.turn.question in
     let firsts = c.loop-mv.firsts in
     elim c.match-lead.branch [
-      | in-Some w ↦
+      | in-Some w ↦ λ old.
           let n = w.in-Some.next in
           let led : SomeLeads o q n = (c.loop-mv.mv, w.in-Some.ensures) in
-          subst (All (Led o q)) (sym w.firsts-is) (All-set (Led o q) firsts n.place (Some w.or_sooner.result) (either o q n firsts n.place w.or_sooner.result w.or_sooner.ensures led c.loop-mv.invariant) c.loop-mv.invariant)
-      | in_default w ↦ subst (All (Led o q)) (sym w.firsts-is) c.loop-mv.invariant
+          subst (All (Led o q)) (sym w.firsts-is) (All-set (Led o q) firsts n.place (Some w.or_sooner.result) (either o q n firsts n.place w.or_sooner.result w.or_sooner.ensures led (c.loop-mv.invariant old)) (c.loop-mv.invariant old))
+      | in_default w ↦ λ old. subst (All (Led o q)) (sym w.firsts-is) (c.loop-mv.invariant old)
     ]
