@@ -9,7 +9,7 @@ use Rattle.game.specs.Fill.{IsLeast}
 use Rattle.game.specs.Forced.{ForcesInto, Forces, IsForced}
 use Rattle.game.proofs.Forced.{into_map, forces_longer, forced_settles}
 use Rattle.game.proofs.Sums.{sum_below, sum_const, sum_lt}
-use Rattle.solver.specs.Entries.{never, as_entry, entries}
+use Rattle.solver.specs.Entries.{never, as_entry, entries, KeptFrom}
 use Rattle.solver.specs.Inner.Marks.{MarkedBelow, RoundDone}
 use Rattle.solver.specs.Forcing.{ForcedMarks}
 use Rattle.solver.proofs.Entries.{entry_small, entry_back, past_front, filled_front}
@@ -72,6 +72,10 @@ module _ (g : Game) (w : WellFormed g) (t : ℕ) (inside : t < g.places) (old : 
 
     before : (fresh : Bool) → RoundDone g g.places marks new (suc i) fresh → (k : ℕ) → k < g.places → get_or new k 0 ≡ never → get_or marks k 0 ≡ never
     before fresh u k l e = elim (s.exact k l) [ inl a ↦ (let h = a.0 in let z = small in let e' = u.kept k l (omega arith) in omega arith) | inr b ↦ b.0 ]
+
+    -- what is behind the places is as it was before the rounds
+    pub rounds_kept : (orig : List ℕ) → ((k : ℕ) → g.places ≤ k → get_or old k 0 ≡ get_or orig k 0) → KeptFrom g.places marks new → length new ≡ length orig → KeptFrom g.places orig new
+    rounds_kept orig rest k size = record { same_length = size; same_rest = λ j l. k.same_rest j l ∙ (s.rest j l ∙ rest j l) }
 
     pub gone_on : RoundDone g g.places marks new (suc i) true → AfterRounds g t old new (suc i)
     gone_on u = record {

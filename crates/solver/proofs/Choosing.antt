@@ -1,11 +1,8 @@
 -- Moves by their numbers, and who chooses among them.
-use Rattle.std.proofs.Common.{◌≡◌, ℕ, ◌+◌, ◌<◌, ◌≤◌, Bool, true, false, Some, None, Option, length, sym, refl, ap, ◌∙◌, subst, arith}
+use Rattle.std.proofs.Common.{◌≡◌, ℕ, ◌<◌, ◌≤◌, Bool, true, false, Some, None, Option, length, sym, refl, ap, ◌∙◌, subst, arith}
 use Rattle.std.specs.Bool.{MatchBool, Decides}
 use Rattle.std.proofs.lemmas.Bool.{false≢true}
-use Rattle.std.specs.Iterator.Runs.{Run}
-use Rattle.std.specs.Option.{option_map}
-use Rattle.std.proofs.iter.Yields.{nat_range_steps}
-use Rattle.std.proofs.iter.runs.Sources.{range_runs}
+use Rattle.std.specs.Option.{is_some, is_none, MatchOption}
 use Rattle.std.specs.List.{slice_get}
 use Rattle.game.specs.declared.Edge.{Edge}
 use Rattle.game.specs.declared.Owner.{Owner}
@@ -14,7 +11,7 @@ use Rattle.game.specs.Game.{Place, Game, WellFormed}
 use Rattle.game.specs.Limits.{most_moves}
 use Rattle.game.specs.Fill.{Choice}
 use Rattle.game.specs.Forced.{foe, ForcesInto}
-use Rattle.game.proofs.Base.{none_some, some_inj}
+use Rattle.game.proofs.Base.{some_inj}
 use Rattle.hopper.specs.Boards.{owner_at, step_at, count_at}
 use Rattle.hopper.proofs.Boards.{step_place, step_at_lem, step_below, step_there, owned}
 use Rattle.solver.specs.Inner.Marks.{LeadsTo}
@@ -80,16 +77,6 @@ pub decided : {P : Type 0} (b : Bool) → MatchBool b P (¬ P) → Decides b P
 decided true p = (λ _. p, λ _. refl)
 decided false not = (λ e. absurd (false≢true e), λ p. absurd (not p))
 
--- a whole run over 0 .. n comes to each number at its place
-pub comes_to : (p : Run nat_range_steps) → p.from.start ≡ 0 → p.whole ≡ true → (m : ℕ) → m < p.from.end → p.at m ≡ Some m
-comes_to p zero whole m lt =
-    let up = range_runs p p.seen in
-    go (p.at m) (up.3 m (omega (arith, up.1 whole)))
-  where
-    go : (o : Option ℕ) → option_map (λ x. x) o ≡ Some (p.from.start + m) → o ≡ Some m
-    go None is = absurd (none_some is)
-    go (Some x) is = is ∙ ap Some (omega arith)
-
 module _ (g : Game) (P : ℕ → Type 0) (p : ℕ) where
   -- a place of ours is forced there where each move leads there, and a place of theirs where some move does
   pub each_forces : owner_at (g.at p) ≡ Some Ours → (b : Bool)
@@ -109,3 +96,15 @@ module _ (g : Game) (P : ℕ → Type 0) (p : ℕ) where
   unfolding Led
   some_forces h true one = tells_led Theirs g P p h true (one.0, one.1.0, one.1.1, one.1.2)
   some_forces h false none = tells_led Theirs g P p h false (λ w. none w.0 (step_below (g.at p) w.0 w.1 w.2) (w.1, w.2, w.3))
+
+-- what a search through the numbers below n has not found is not there
+pub none_found : (P Q : ℕ → Type 0) (n count : ℕ) → n ≡ count → (o : Option ℕ) → MatchOption o ((k : ℕ) → 0 ≤ k → k < n → P k) (λ m. (0 ≤ m) × (m < n) × (¬ P m) × Q m)
+    → MatchBool (is_none o) ((m : ℕ) → m < count → P m) ((m : ℕ) × (m < count) × ¬ P m)
+none_found P Q n count same None all = λ m lt. all m (omega arith) (omega arith)
+none_found P Q n count same (Some m) one = (m, (let lt = one.1 in omega arith), one.2)
+
+-- and what it has found is there
+pub some_found : (P Q : ℕ → Type 0) (n count : ℕ) → n ≡ count → (o : Option ℕ) → MatchOption o ((k : ℕ) → 0 ≤ k → k < n → ¬ P k) (λ m. (0 ≤ m) × (m < n) × P m × Q m)
+    → MatchBool (is_some o) ((m : ℕ) × P m) ((m : ℕ) → m < count → ¬ P m)
+some_found P Q n count same None none = λ m lt. none m (omega arith) (omega arith)
+some_found P Q n count same (Some m) one = (m, one.2)

@@ -6,7 +6,7 @@ use Rattle.std.proofs.lemmas.Bool.Decides.{Decides-like}
 use Rattle.game.specs.Game.{Game, WellFormed}
 use Rattle.game.specs.Forced.{ForcesInto}
 use Rattle.game.proofs.Forced.{into_map}
-use Rattle.solver.specs.Entries.{never}
+use Rattle.solver.specs.Entries.{never, KeptFrom}
 use Rattle.solver.specs.Inner.Marks.{MarkedBelow, RoundDone}
 
 module _ (g : Game) (wf : WellFormed g) (old : List ℕ) (round : ℕ) (small : round < never) (fits : (k : ℕ) → get_or old k 0 ≤ never) where
@@ -60,3 +60,7 @@ module _ (g : Game) (wf : WellFormed g) (old : List ℕ) (round : ℕ) (small : 
         marked = below_more _ n t.marked (λ e'. inr (e, λ h. next (into_map g wf (MarkedBelow old round) (MarkedBelow new round) (λ q lt. (same n new fresh t q).1) n h)));
         news = grown n new fresh t.rest t.news;
       }
+
+-- a round leaves what is behind the places as it was, wherever it stops
+pub round_kept : (g : Game) (n : ℕ) (old new : List ℕ) (round : ℕ) (fresh : Bool) → RoundDone g n old new round fresh → n ≤ g.places → length new ≡ length old → KeptFrom g.places old new
+round_kept g n old new round fresh t inside size = record { same_length = size; same_rest = λ k h. t.rest k (omega arith) }

@@ -56,18 +56,31 @@ impl<B: Board> Entries<'_, B> {
         self.entries[self.move_at(place, m).target as usize] < round
     }
 
-    // Whether the other side can force one move from the place to an entry below the round.
-    pub(crate) fn can_force(&self, place: u32, round: u32) -> bool
+    // Whether the other side can force one move from the place to an entry below the round, and how many moves had to be looked at before the one that decides:
+    // of ours one that leads elsewhere, of theirs one that leads there.
+    pub(crate) fn can_force(&self, place: u32, round: u32) -> (bool, u32)
         requires { place < (B.Board.game self.now.board.now).places }
-        ensures { Decides result (ForcesInto (B.Board.game self.now.board.now) (MarkedBelow self.now.entries.now round) place) }
+        ensures { Decides result.0 (ForcesInto (B.Board.game self.now.board.now) (MarkedBelow self.now.entries.now round) place) }
     {
-        let below = |m: u32|
-            requires { m < count_at ((B.Board.game self.now.board.now).at place) }
-        { self.leads_below(place, m, round) };
-        let mut moves = 0..self.move_count(place);
+        let count = self.move_count(place);
+        let mut moves = 0..count;
         match self.owner(place) {
-            Owner::Ours => moves.all(below),
-            Owner::Theirs => moves.any(below),
+            Owner::Ours => {
+                let elsewhere = moves.find(
+                    |&m|
+                        requires { m < count_at ((B.Board.game self.now.board.now).at place) }
+                    { !self.leads_below(place, m, round) },
+                );
+                (elsewhere.is_none(), elsewhere.unwrap_or(count))
+            }
+            Owner::Theirs => {
+                let there = moves.find(
+                    |&m|
+                        requires { m < count_at ((B.Board.game self.now.board.now).at place) }
+                    { self.leads_below(place, m, round) },
+                );
+                (there.is_some(), there.unwrap_or(count))
+            }
         }
     }
 

@@ -2,6 +2,7 @@
 #![tactic(auto)]
 
 mod arcs;
+mod budget;
 mod buffer;
 mod changing;
 mod edge_table;

@@ -6,8 +6,9 @@ ghost use Rattle.solver.specs.Entries.{KeptFrom};
 ghost use Rattle.solver.specs.Forcing.{ForcedMarks};
 ghost use Rattle.solver.specs.Marking.{MarkPromises};
 
+use super::budget::Looks;
 use super::edge_table::EdgeTable;
-use super::forcing::forced;
+use super::forcing::{forced, rounds_within};
 use super::levels::spread_levels;
 use super::settling::guessed;
 use super::unfolded::{Unfolded, fills};
@@ -23,7 +24,8 @@ pub fn marks_needed<B: Board, V: Vessel>(board: &B, vessel: &V) -> usize
     fills(board, vessel).min(MOST_FILLS) as usize + 1
 }
 
-// Marks the fills by the moves of the line alone, and answers the number of rounds if the heap has room for the work and the marks settle.
+// Marks the fills by rounds where few looks are enough for that, else by the moves of the line alone, and answers the number of rounds if the heap has room
+// for the work and the marks settle.
 fn by_levels<B: Board, V: Vessel>(
     heap: Global,
     fills: &Unfolded<B, V>,
@@ -40,6 +42,11 @@ fn by_levels<B: Board, V: Vessel>(
         board: &table,
         vessel: fills.vessel,
     };
+    let levels = fills.vessel.top() as u64 + 1;
+    let moves = levels.saturating_mul(table.edges.len() as u64);
+    if let Ok(rounds) = rounds_within(&fills, target, marks, Looks::few(moves)) {
+        return Some(rounds);
+    }
     guessed(&fills, target, marks, |front| {
         spread_levels(heap, &table, fills.vessel, front)
     })

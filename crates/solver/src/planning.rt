@@ -26,6 +26,9 @@ fn first_serving<B: Board, V: Graded>(row: &Entries<B>, vessel: &V, place: u32) 
     requires { place < (B.Board.game row.now.board.now).places }
     ensures { MatchOption result ((m : ℕ) → ¬ NeedsNoMore (B.Board.game row.now.board.now) (V.Vessel.hopper vessel.now) (entries row.now.entries.now) place m) (Planned (B.Board.game row.now.board.now) (V.Vessel.hopper vessel.now) row.now.entries.now place) }
 {
+    if row.entries[place as usize] == NEVER {
+        return None;
+    }
     (0..row.move_count(place)).find(
         |&m|
             requires { m < count_at ((B.Board.game row.now.board.now).at place) }

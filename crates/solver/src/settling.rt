@@ -1,10 +1,11 @@
 // Whether marks settle: one pass over a board that looks at each mark beside those that its place's moves lead to.
-ghost use Rattle.std.specs.Prelude.{◌≡◌, ℕ, ◌<◌, ◌≤◌, List, length, IfSome};
+ghost use Rattle.std.specs.Prelude.{◌≡◌, ℕ, ◌<◌, ◌≤◌, List, length, true, IfSome};
 ghost use Rattle.game.specs.Forced.{foe};
 ghost use Rattle.hopper.specs.Boards.{count_at};
-ghost use Rattle.solver.specs.Entries.{KeptFrom};
+ghost use Rattle.solver.specs.Entries.{never, KeptFrom};
 ghost use Rattle.solver.specs.Forcing.{ForcedMarks};
 ghost use Rattle.solver.specs.Inner.Marks.{LeadsToMark, IsBest, IsDue};
+ghost use Rattle.solver.specs.Inner.Rows.{Prefers};
 
 use super::NEVER;
 use super::buffer::Entries;
@@ -22,6 +23,16 @@ fn foe(owner: Owner) -> Owner
     }
 }
 
+// The number that nothing is preferred to: never where it is to be high, 0 where it is to be low.
+fn last(chooser: Owner) -> u32
+    ensures { (n : ℕ) → n ≤ never → Prefers chooser result n }
+{
+    match chooser {
+        Owner::Ours => 0,
+        Owner::Theirs => NEVER,
+    }
+}
+
 impl<B: Board> Entries<'_, B> {
     // The mark that the place's move m leads to.
     #[inline(always)]
@@ -32,13 +43,32 @@ impl<B: Board> Entries<'_, B> {
         self.entries[self.move_at(place, m).target as usize]
     }
 
+    // Whether a move of the place is found that leads to this mark.
+    fn finds(&self, place: u32, mark: u32) -> bool
+        requires { place < (B.Board.game self.now.board.now).places }
+        ensures { result ≡ true → (m : ℕ) × LeadsToMark (B.Board.game self.now.board.now) self.now.entries.now place m mark }
+    {
+        (0..self.move_count(place)).any(
+            |m|
+                requires { m < count_at ((B.Board.game self.now.board.now).at place) }
+            { self.mark_led(place, m) == mark },
+        )
+    }
+
     // The highest of the marks that the moves of a place lead to where the place is ours, the lowest where it is theirs.
+    // Where the place's own mark says that it is the very highest, or the very lowest, the moves are looked at up to one that leads there.
     fn best(&self, place: u32) -> u32
         requires { place < (B.Board.game self.now.board.now).places }
         ensures { IsBest (B.Board.game self.now.board.now) self.now.entries.now place result }
     {
+        let marks = self.entries;
+        let chooser = foe(self.owner(place));
+        let end = last(chooser);
+        if marks[place as usize] == end.saturating_add(1) && self.finds(place, end) {
+            return end;
+        }
         preferred(
-            foe(self.owner(place)),
+            chooser,
             self.move_count(place),
             |m|
                 requires { m < count_at ((B.Board.game self.now.board.now).at place) }
