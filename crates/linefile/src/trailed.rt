@@ -172,8 +172,10 @@ impl<'a> Trailed<'a> {
         ensures { table.new ≡ R.Record.list (line_of self.now.bytes.now) ++ drop (length (R.Record.list (line_of self.now.bytes.now))) table.old }
     {
         let (from, n) = R::part(self);
+        // apart from `self`, so that the loop is one that a processor does several records at a time
+        let file = self.bytes;
         for (i, record) in table[..n].iter_mut().enumerate() {
-            *record = R::read_at(self.bytes, from + i * RECORD_SIZE);
+            *record = R::read_at(file, from + i * RECORD_SIZE);
         }
     }
 }
