@@ -159,7 +159,9 @@ fn main(rt: HostRuntime) -> io::Result<()> {
     let Some(path) = words.next() else {
         return println!(rt; "the path of a line file is missing");
     };
-    let file = file_bytes(rt.alloc(), File::open(&rt, path.as_str())?)?;
+    // stays open while the calls are read
+    let input = File::open(&rt, path.as_str())?;
+    let file = file_bytes(rt.alloc(), &input)?;
     match FileLine::try_from(file.as_slice()) {
         Err(fault) => println!(rt; "{fault}"),
         Ok(line) => mark_and_run(&rt, &line, &line.vessel()),
